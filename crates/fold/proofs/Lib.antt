@@ -1,0 +1,4 @@
+pub mod Law
+pub mod Order
+pub mod Masks
+pub mod Steps
