@@ -89,7 +89,6 @@ along-kept n size c a h =
 
 module _ (f : Leaf → Leaf) (line : ℕ → List Leaf) (n size H : ℕ) (size-is : size ≡ 2 ^ suc n)
     (all : (c : ℕ) → 1 ≤ c → c ≤ 2 ^ suc n → length (line c) ≡ H) where
-
   -- the piles of the line after the fold
   abbrev lined : ℕ → List Leaf
   lined j = reverse (map f (line (size / 2 + 1 - j))) ++ line (size / 2 + j)
@@ -119,11 +118,13 @@ stacked-fold : (l : Letter) (w : Letters) (g : Grid) (H : ℕ) → Stacked (l �
 stacked-fold W w g H s = record {
   height-is = s .height-is;
   width-is = half-is (count-W w) (g .width) (s .width-is);
-  piles = λ i j i1 i2. line-length (over W) (g .pile i) (count-W w) (g .width) H (s .width-is) (λ c. s .piles i c i1 i2) j }
+  piles = λ i j i1 i2. line-length (over W) (g .pile i) (count-W w) (g .width) H (s .width-is) (λ c. s .piles i c i1 i2) j;
+}
 stacked-fold N w g H s = record {
   height-is = half-is (count-N w) (g .height) (s .height-is);
   width-is = s .width-is;
-  piles = λ i j i1 i2 j1 j2. line-length (over N) (λ r. g .pile r j) (count-N w) (g .height) H (s .height-is) (λ c c1 c2. s .piles c j c1 c2 j1 j2) i i1 i2 }
+  piles = λ i j i1 i2 j1 j2. line-length (over N) (λ r. g .pile r j) (count-N w) (g .height) H (s .height-is) (λ c c1 c2. s .piles c j c1 c2 j1 j2) i i1 i2;
+}
 
 -- the leaf x, turned over as often as the state says, lies where the state says
 pub record At (w : Letters) (g : Grid) (p : CellState) (x : Leaf) : Type 0 where
@@ -144,20 +145,24 @@ at-W w g p x a =
       stacked = stacked-fold W w g (p .height) s;
       rows-in = a .rows-in;
       columns-in = along-turned (count-W w) (p .columns) (p .column) (a .columns-in) le;
-      depth-low = omega (arith, a .depth-high); depth-high = omega (arith, a .depth-low);
+      depth-low = omega (arith, a .depth-high);
+      depth-high = omega (arith, a .depth-low);
       leaf-is =
-        subst (λ n. item (reverse (map (over W) (g .pile (p .row) (n / 2 + 1 - (p .columns / 2 + 1 - p .column)))) ++ g .pile (p .row) (n / 2 + (p .columns / 2 + 1 - p .column))) (p .height + 1 - p .depth) ≡ turnedOver (p .turns + 1) (p .tumbles) x) (sym same)
-        (line-turned (over W) (g .pile (p .row)) (count-W w) (p .columns) (p .height) (a .columns-in .size-is) piles (p .column) (p .depth) (a .columns-in) le (a .depth-low) (a .depth-high)
-        ∙ over-W (p .turns) (p .tumbles) x _ (a .leaf-is)) })
+          subst (λ n. item (reverse (map (over W) (g .pile (p .row) (n / 2 + 1 - (p .columns / 2 + 1 - p .column)))) ++ g .pile (p .row) (n / 2 + (p .columns / 2 + 1 - p .column))) (p .height + 1 - p .depth) ≡ turnedOver (p .turns + 1) (p .tumbles) x) (sym same)
+          (line-turned (over W) (g .pile (p .row)) (count-W w) (p .columns) (p .height) (a .columns-in .size-is) piles (p .column) (p .depth) (a .columns-in) le (a .depth-low) (a .depth-high)
+          ∙ over-W (p .turns) (p .tumbles) x _ (a .leaf-is));
+    })
     (λ e. let gt = leb-false _ _ e in record {
       stacked = stacked-fold W w g (p .height) s;
       rows-in = a .rows-in;
       columns-in = along-kept (count-W w) (p .columns) (p .column) (a .columns-in) gt;
-      depth-low = omega (arith, a .depth-low); depth-high = omega (arith, a .depth-high);
+      depth-low = omega (arith, a .depth-low);
+      depth-high = omega (arith, a .depth-high);
       leaf-is =
-        subst (λ n. item (reverse (map (over W) (g .pile (p .row) (n / 2 + 1 - (p .column - p .columns / 2)))) ++ g .pile (p .row) (n / 2 + (p .column - p .columns / 2))) (p .depth + p .height) ≡ turnedOver (p .turns) (p .tumbles) x) (sym same)
-        (line-kept (over W) (g .pile (p .row)) (count-W w) (p .columns) (p .height) (a .columns-in .size-is) piles (p .column) (p .depth) (a .columns-in) gt (a .depth-low)
-        ∙ a .leaf-is) })
+          subst (λ n. item (reverse (map (over W) (g .pile (p .row) (n / 2 + 1 - (p .column - p .columns / 2)))) ++ g .pile (p .row) (n / 2 + (p .column - p .columns / 2))) (p .depth + p .height) ≡ turnedOver (p .turns) (p .tumbles) x) (sym same)
+          (line-kept (over W) (g .pile (p .row)) (count-W w) (p .columns) (p .height) (a .columns-in .size-is) piles (p .column) (p .depth) (a .columns-in) gt (a .depth-low)
+          ∙ a .leaf-is);
+    })
 
 at-N : (w : Letters) (g : Grid) (p : CellState) (x : Leaf) → At (N ∷ w) g p x → At w (fold N g) (step N p) x
 at-N w g p x a =
@@ -169,20 +174,24 @@ at-N w g p x a =
       stacked = stacked-fold N w g (p .height) s;
       rows-in = along-turned (count-N w) (p .rows) (p .row) (a .rows-in) le;
       columns-in = a .columns-in;
-      depth-low = omega (arith, a .depth-high); depth-high = omega (arith, a .depth-low);
+      depth-low = omega (arith, a .depth-high);
+      depth-high = omega (arith, a .depth-low);
       leaf-is =
-        subst (λ n. item (reverse (map (over N) (g .pile (n / 2 + 1 - (p .rows / 2 + 1 - p .row)) (p .column))) ++ g .pile (n / 2 + (p .rows / 2 + 1 - p .row)) (p .column)) (p .height + 1 - p .depth) ≡ turnedOver (p .turns + 1) (p .tumbles + 1) x) (sym same)
-        (line-turned (over N) (λ r. g .pile r (p .column)) (count-N w) (p .rows) (p .height) (a .rows-in .size-is) piles (p .row) (p .depth) (a .rows-in) le (a .depth-low) (a .depth-high)
-        ∙ over-N (p .turns) (p .tumbles) x _ (a .leaf-is)) })
+          subst (λ n. item (reverse (map (over N) (g .pile (n / 2 + 1 - (p .rows / 2 + 1 - p .row)) (p .column))) ++ g .pile (n / 2 + (p .rows / 2 + 1 - p .row)) (p .column)) (p .height + 1 - p .depth) ≡ turnedOver (p .turns + 1) (p .tumbles + 1) x) (sym same)
+          (line-turned (over N) (λ r. g .pile r (p .column)) (count-N w) (p .rows) (p .height) (a .rows-in .size-is) piles (p .row) (p .depth) (a .rows-in) le (a .depth-low) (a .depth-high)
+          ∙ over-N (p .turns) (p .tumbles) x _ (a .leaf-is));
+    })
     (λ e. let gt = leb-false _ _ e in record {
       stacked = stacked-fold N w g (p .height) s;
       rows-in = along-kept (count-N w) (p .rows) (p .row) (a .rows-in) gt;
       columns-in = a .columns-in;
-      depth-low = omega (arith, a .depth-low); depth-high = omega (arith, a .depth-high);
+      depth-low = omega (arith, a .depth-low);
+      depth-high = omega (arith, a .depth-high);
       leaf-is =
-        subst (λ n. item (reverse (map (over N) (g .pile (n / 2 + 1 - (p .row - p .rows / 2)) (p .column))) ++ g .pile (n / 2 + (p .row - p .rows / 2)) (p .column)) (p .depth + p .height) ≡ turnedOver (p .turns) (p .tumbles) x) (sym same)
-        (line-kept (over N) (λ r. g .pile r (p .column)) (count-N w) (p .rows) (p .height) (a .rows-in .size-is) piles (p .row) (p .depth) (a .rows-in) gt (a .depth-low)
-        ∙ a .leaf-is) })
+          subst (λ n. item (reverse (map (over N) (g .pile (n / 2 + 1 - (p .row - p .rows / 2)) (p .column))) ++ g .pile (n / 2 + (p .row - p .rows / 2)) (p .column)) (p .depth + p .height) ≡ turnedOver (p .turns) (p .tumbles) x) (sym same)
+          (line-kept (over N) (λ r. g .pile r (p .column)) (count-N w) (p .rows) (p .height) (a .rows-in .size-is) piles (p .row) (p .depth) (a .rows-in) gt (a .depth-low)
+          ∙ a .leaf-is);
+    })
 
 -- ---- all folds
 
@@ -220,22 +229,26 @@ at-begin w g H i j a s i1 i2 j1 j2 a1 a2 x e = record {
   stacked = s;
   rows-in = record { size-is = refl; low = i1; high = i2 };
   columns-in = record { size-is = refl; low = j1; high = j2 };
-  depth-low = a1; depth-high = a2; leaf-is = e }
+  depth-low = a1;
+  depth-high = a2;
+  leaf-is = e;
+}
 
 pub leaves-follow-the-walk : LeavesFollowTheWalk
 leaves-follow-the-walk w H g s i j a x i1 i2 j1 j2 a1 found =
     elim (cases-lt (a - 1) (length (g .pile i j))) [
-      inl short ↦
-        let long = s .piles i j i1 i2 j1 j2 in
-        let is : item (g .pile i j) a ≡ x = let e = nth-getD (g .pile i j) (a - 1) blank short in cc in
-        let b = at-begin w g H i j a s i1 i2 j1 j2 a1 (omega arith) x is in
-        let z = at-last w g (begin w H i j a) x b in
-        let low : walk w (begin w H i j a) .depth - 1 < length (last w g) =
-            omega (arith, z .depth-low, z .depth-high, walk-height w (begin w H i j a), end-length w g H s) in
-        nth-getD (last w g) (walk w (begin w H i j a) .depth - 1) blank low ∙ ap Some (at-end w g (begin w H i j a) x b)
-    | inr past ↦
-        let e = nth-past (g .pile i j) (a - 1) past in
-        let z : _≡_ {A = ℕ} 0 1 = cc in absurd (omega arith) ]
+      | inl short ↦
+          let long = s .piles i j i1 i2 j1 j2 in
+          let is : item (g .pile i j) a ≡ x = let e = nth-getD (g .pile i j) (a - 1) blank short in cc in
+          let b = at-begin w g H i j a s i1 i2 j1 j2 a1 (omega arith) x is in
+          let z = at-last w g (begin w H i j a) x b in
+          let low : walk w (begin w H i j a) .depth - 1 < length (last w g) =
+          omega (arith, z .depth-low, z .depth-high, walk-height w (begin w H i j a), end-length w g H s) in
+          nth-getD (last w g) (walk w (begin w H i j a) .depth - 1) blank low ∙ ap Some (at-end w g (begin w H i j a) x b)
+      | inr past ↦
+          let e = nth-past (g .pile i j) (a - 1) past in
+          let z : _≡_ {A = ℕ} 0 1 = cc in absurd (omega arith)
+    ]
 
 -- ---- every depth of the last pile is reached
 
@@ -248,17 +261,32 @@ record Before (n H c d : ℕ) : Type 0 where
   pub deep-low : 1 ≤ deep
   pub deep-high : deep ≤ H
   pub came : (2 ^ suc n / 2 < at × (at - 2 ^ suc n / 2 ≡ c) × (deep + H ≡ d))
-    ⊎ (at ≤ 2 ^ suc n / 2 × (2 ^ suc n / 2 + 1 - at ≡ c) × (H + 1 - deep ≡ d))
+      ⊎ (at ≤ 2 ^ suc n / 2 × (2 ^ suc n / 2 + 1 - at ≡ c) × (H + 1 - deep ≡ d))
 
 came-from : (n H c d : ℕ) → 1 ≤ c → c ≤ 2 ^ n → 1 ≤ d → d ≤ H * 2 → Before n H c d
 came-from n H c d c1 c2 d1 d2 =
     let double : 2 ^ suc n ≡ 2 ^ n * 2 = pow-suc 2 n in
     let half : 2 ^ suc n / 2 ≡ 2 ^ n = omega arith in
     elim (cases-lt H d) [
-      inl h ↦ record { at = 2 ^ n + c; deep = d - H; at-low = omega arith; at-high = omega arith; deep-low = omega arith; deep-high = omega arith;
-        came = inl (omega arith, omega arith, omega arith) }
-    | inr h ↦ record { at = 2 ^ n + 1 - c; deep = H + 1 - d; at-low = omega arith; at-high = omega arith; deep-low = omega arith; deep-high = omega arith;
-        came = inr (omega arith, omega arith, omega arith) } ]
+      | inl h ↦ record {
+        at = 2 ^ n + c;
+        deep = d - H;
+        at-low = omega arith;
+        at-high = omega arith;
+        deep-low = omega arith;
+        deep-high = omega arith;
+        came = inl (omega arith, omega arith, omega arith);
+      }
+      | inr h ↦ record {
+        at = 2 ^ n + 1 - c;
+        deep = H + 1 - d;
+        at-low = omega arith;
+        at-high = omega arith;
+        deep-low = omega arith;
+        deep-high = omega arith;
+        came = inr (omega arith, omega arith, omega arith);
+      }
+    ]
 
 pub record Reach (w : Letters) (H b : ℕ) : Type 0 where
   pub row : ℕ
@@ -276,41 +304,64 @@ reach-W : (w : Letters) (H b : ℕ) → Reach w (H * 2) b → Reach (W ∷ w) H 
 reach-W w H b r =
     let half = half-is (count-W w) (2 ^ suc (count-W w)) refl in
     let q = came-from (count-W w) H (r .column) (r .depth) (r .column-low) (r .column-high) (r .depth-low) (r .depth-high) in record {
-      row = r .row; column = q .at; depth = q .deep;
-      row-low = r .row-low; row-high = r .row-high; column-low = q .at-low; column-high = q .at-high;
-      depth-low = q .deep-low; depth-high = q .deep-high;
+      row = r .row;
+      column = q .at;
+      depth = q .deep;
+      row-low = r .row-low;
+      row-high = r .row-high;
+      column-low = q .at-low;
+      column-high = q .at-high;
+      depth-low = q .deep-low;
+      depth-high = q .deep-high;
       lands = λ t n. elim (q .came) [
-        inl k ↦ ap (λ p. walk w p .depth)
+        | inl k ↦ ap (λ p. walk w p .depth)
             (cond-false _ _ _ (lt-leb (q .at) (2 ^ suc (count-W w) / 2) (k .0))
             ∙ (λ i. record { rows = rows-of w; columns = half i; row = r .row; column = k .1 i; depth = k .2 i; height = H * 2; turns = t; tumbles = n }))
-          ∙ r .lands t n
-      | inr k ↦ ap (λ p. walk w p .depth)
+            ∙ r .lands t n
+        | inr k ↦ ap (λ p. walk w p .depth)
             (cond-true _ _ _ (le-leb (q .at) (2 ^ suc (count-W w) / 2) (k .0))
             ∙ (λ i. record { rows = rows-of w; columns = half i; row = r .row; column = k .1 i; depth = k .2 i; height = H * 2; turns = t + 1; tumbles = n }))
-          ∙ r .lands (t + 1) n ] }
+            ∙ r .lands (t + 1) n
+      ];
+    }
 
 reach-N : (w : Letters) (H b : ℕ) → Reach w (H * 2) b → Reach (N ∷ w) H b
 reach-N w H b r =
     let half = half-is (count-N w) (2 ^ suc (count-N w)) refl in
     let q = came-from (count-N w) H (r .row) (r .depth) (r .row-low) (r .row-high) (r .depth-low) (r .depth-high) in record {
-      row = q .at; column = r .column; depth = q .deep;
-      row-low = q .at-low; row-high = q .at-high; column-low = r .column-low; column-high = r .column-high;
-      depth-low = q .deep-low; depth-high = q .deep-high;
+      row = q .at;
+      column = r .column;
+      depth = q .deep;
+      row-low = q .at-low;
+      row-high = q .at-high;
+      column-low = r .column-low;
+      column-high = r .column-high;
+      depth-low = q .deep-low;
+      depth-high = q .deep-high;
       lands = λ t n. elim (q .came) [
-        inl k ↦ ap (λ p. walk w p .depth)
+        | inl k ↦ ap (λ p. walk w p .depth)
             (cond-false _ _ _ (lt-leb (q .at) (2 ^ suc (count-N w) / 2) (k .0))
             ∙ (λ i. record { rows = half i; columns = columns-of w; row = k .1 i; column = r .column; depth = k .2 i; height = H * 2; turns = t; tumbles = n }))
-          ∙ r .lands t n
-      | inr k ↦ ap (λ p. walk w p .depth)
+            ∙ r .lands t n
+        | inr k ↦ ap (λ p. walk w p .depth)
             (cond-true _ _ _ (le-leb (q .at) (2 ^ suc (count-N w) / 2) (k .0))
             ∙ (λ i. record { rows = half i; columns = columns-of w; row = k .1 i; column = r .column; depth = k .2 i; height = H * 2; turns = t + 1; tumbles = n + 1 }))
-          ∙ r .lands (t + 1) (n + 1) ] }
+            ∙ r .lands (t + 1) (n + 1)
+      ];
+    }
 
 pub reach : (w : Letters) (H b : ℕ) → 1 ≤ b → b ≤ H * 2 ^ length w → Reach w H b
 reach [] H b low high = record {
-  row = 1; column = 1; depth = b;
-  row-low = omega arith; row-high = omega arith; column-low = omega arith; column-high = omega arith;
-  depth-low = low; depth-high = omega (arith, high);
-  lands = λ t n. refl }
+  row = 1;
+  column = 1;
+  depth = b;
+  row-low = omega arith;
+  row-high = omega arith;
+  column-low = omega arith;
+  column-high = omega arith;
+  depth-low = low;
+  depth-high = omega (arith, high);
+  lands = λ t n. refl;
+}
 reach (W ∷ w) H b low high = reach-W w H b (reach w (H * 2) b low (subst (λ n. b ≤ n) (twice w H) high))
 reach (N ∷ w) H b low high = reach-N w H b (reach w (H * 2) b low (subst (λ n. b ≤ n) (twice w H) high))

@@ -53,7 +53,8 @@ opposite-twice Turned = refl
 reversed-twice : (l : Leaf) → reversed (reversed l) ≡ l
 reversed-twice l = λ i. record {
   upper = record { page = l .upper .page; mark = opposite-twice (l .upper .mark) i };
-  lower = record { page = l .lower .page; mark = opposite-twice (l .lower .mark) i } }
+  lower = record { page = l .lower .page; mark = opposite-twice (l .lower .mark) i };
+}
 
 -- ---- what a cell shows, and what it reads in the end
 
@@ -61,7 +62,8 @@ module _ (h : ℕ → ℕ) where
   abbrev leafOf : CellState → Leaf
   leafOf p = record {
     upper = record { page = h (shows Two p .page); mark = shows Two p .mark };
-    lower = record { page = h (shows One p .page); mark = shows One p .mark } }
+    lower = record { page = h (shows One p .page); mark = shows One p .mark };
+  }
 
   -- paper leaf d of the finished signature
   abbrev risen : ℕ → Leaf
@@ -70,7 +72,8 @@ module _ (h : ℕ → ℕ) where
   abbrev shown : Bool → Bool → ℕ → Leaf
   shown b c d = record {
     upper = record { page = h (cond b (2 * d) (2 * d - 1)); mark = cond c Turned Upright };
-    lower = record { page = h (cond b (2 * d - 1) (2 * d)); mark = cond c Turned Upright } }
+    lower = record { page = h (cond b (2 * d - 1) (2 * d)); mark = cond c Turned Upright };
+  }
 
   turned-back : (b c : Bool) (d : ℕ) → cond b (exchanged (cond c (reversed (shown b c d)) (shown b c d))) (cond c (reversed (shown b c d)) (shown b c d)) ≡ risen d
   turned-back true true d = refl
@@ -121,16 +124,18 @@ folds-in-order w k h = ap read same ∙ rising h k (2 ^ length w)
         let p = walk w (start w k s i c) in
         let lands : p .depth ≡ b = ap (λ d. walk w (begin w k i c d) .depth) deep ∙ r .lands 0 0 in
         let is : item (stack w k f .pile i c) a ≡ leafOf h p =
-            getD-piled k _ (a - 1) (omega (arith, r .depth-low, r .depth-high))
-            ∙ (λ j. record {
-              upper = f (sheet j) Two i c;
-              lower = record {
-                page = h (shows One (walk w (start w k (sheet j) i (turn-back j))) .page);
-                mark = shows One (walk w (start w k (sheet j) i (turn-back j))) .mark } }) in
+        getD-piled k _ (a - 1) (omega (arith, r .depth-low, r .depth-high))
+        ∙ (λ j. record {
+          upper = f (sheet j) Two i c;
+          lower = record {
+            page = h (shows One (walk w (start w k (sheet j) i (turn-back j))) .page);
+            mark = shows One (walk w (start w k (sheet j) i (turn-back j))) .mark;
+          };
+        }) in
         ap (item (last w (stack w k f))) (sym lands)
         ∙ at-end w (stack w k f) (start w k s i c) (leafOf h p)
-          (at-begin w (stack w k f) k i c a (stacked w k f) (r .row-low) (r .row-high) (r .column-low) (r .column-high)
-            (omega (arith, r .depth-low)) (omega (arith, r .depth-high)) (leafOf h p) is)
+        (at-begin w (stack w k f) k i c a (stacked w k f) (r .row-low) (r .row-high) (r .column-low) (r .column-high)
+        (omega (arith, r .depth-low)) (omega (arith, r .depth-high)) (leafOf h p) is)
         ∙ comes-out h p
         ∙ ap (risen h) lands
 
@@ -138,8 +143,8 @@ folds-in-order w k h = ap read same ∙ rising h k (2 ^ length w)
     same = ext-getD blank _ _
         (end-length w (stack w k f) k (stacked w k f) ∙ sym (length-map-counting (risen h) 1 (k * 2 ^ length w)))
         (λ i l.
-          let short : i < k * 2 ^ length w = omega (arith, l, end-length w (stack w k f) k (stacked w k f)) in
-          let at : i ≡ i + 1 - 1 = omega arith in
-          ap (λ n. getD (last w (stack w k f)) n blank) at
-          ∙ each (i + 1) (omega arith) (omega arith)
-          ∙ sym (getD-map-counting (risen h) 1 (k * 2 ^ length w) i (i + 1) blank short (omega arith)))
+        let short : i < k * 2 ^ length w = omega (arith, l, end-length w (stack w k f) k (stacked w k f)) in
+        let at : i ≡ i + 1 - 1 = omega arith in
+        ap (λ n. getD (last w (stack w k f)) n blank) at
+        ∙ each (i + 1) (omega arith) (omega arith)
+        ∙ sym (getD-map-counting (risen h) 1 (k * 2 ^ length w) i (i + 1) blank short (omega arith)))

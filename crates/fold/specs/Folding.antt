@@ -51,11 +51,13 @@ abbrev pub fold : Letter → Grid → Grid
 fold W g = record {
   height = g .height;
   width = g .width / 2;
-  pile = λ i j. reverse (map (over W) (g .pile i (g .width / 2 + 1 - j))) ++ g .pile i (g .width / 2 + j) }
+  pile = λ i j. reverse (map (over W) (g .pile i (g .width / 2 + 1 - j))) ++ g .pile i (g .width / 2 + j);
+}
 fold N g = record {
   height = g .height / 2;
   width = g .width;
-  pile = λ i j. reverse (map (over N) (g .pile (g .height / 2 + 1 - i) j)) ++ g .pile (g .height / 2 + i) j }
+  pile = λ i j. reverse (map (over N) (g .pile (g .height / 2 + 1 - i) j)) ++ g .pile (g .height / 2 + i) j;
+}
 
 abbrev pub folded : Letters → Grid → Grid
 folded [] g = g
@@ -75,7 +77,8 @@ abbrev pub stack : Letters → ℕ → Filling → Grid
 stack w k f = record {
   height = rows-of w;
   width = columns-of w;
-  pile = λ i j. piled k (λ s. record { upper = f s Two i j; lower = f s One i (columns-of w + 1 - j) }) }
+  pile = λ i j. piled k (λ s. record { upper = f s Two i j; lower = f s One i (columns-of w + 1 - j) });
+}
 
 -- A pile read from the top, upper face before lower.
 abbrev pub read : List Leaf → List Cell
@@ -122,4 +125,4 @@ LeavesFollowTheWalk = (w : Letters) (leaves : ℕ) (g : Grid) → Stacked w leav
     → (i j a : ℕ) (x : Leaf) → 1 ≤ i → i ≤ rows-of w → 1 ≤ j → j ≤ columns-of w → 1 ≤ a
     → nth (g .pile i j) (a - 1) ≡ Some x
     → nth (last w g) (walk w (begin w leaves i j a) .depth - 1)
-      ≡ Some (turnedOver (walk w (begin w leaves i j a) .turns) (walk w (begin w leaves i j a) .tumbles) x)
+    ≡ Some (turnedOver (walk w (begin w leaves i j a) .turns) (walk w (begin w leaves i j a) .tumbles) x)

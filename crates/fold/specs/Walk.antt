@@ -21,15 +21,47 @@ use Rattle.fold.specs.declared.walk.CellState.{CellState}
 -- below the pile that comes to lie on it. Either way the pile is then twice as high.
 abbrev pub step : Letter → CellState → CellState
 step W p = cond (leb (p .column) (p .columns / 2))
-    (record { rows = p .rows; columns = p .columns / 2; row = p .row; column = p .columns / 2 + 1 - p .column;
-      depth = p .height + 1 - p .depth; height = p .height * 2; turns = p .turns + 1; tumbles = p .tumbles })
-    (record { rows = p .rows; columns = p .columns / 2; row = p .row; column = p .column - p .columns / 2;
-      depth = p .depth + p .height; height = p .height * 2; turns = p .turns; tumbles = p .tumbles })
+    (record {
+      rows = p .rows;
+      columns = p .columns / 2;
+      row = p .row;
+      column = p .columns / 2 + 1 - p .column;
+      depth = p .height + 1 - p .depth;
+      height = p .height * 2;
+      turns = p .turns + 1;
+      tumbles = p .tumbles;
+    })
+    (record {
+      rows = p .rows;
+      columns = p .columns / 2;
+      row = p .row;
+      column = p .column - p .columns / 2;
+      depth = p .depth + p .height;
+      height = p .height * 2;
+      turns = p .turns;
+      tumbles = p .tumbles;
+    })
 step N p = cond (leb (p .row) (p .rows / 2))
-    (record { rows = p .rows / 2; columns = p .columns; row = p .rows / 2 + 1 - p .row; column = p .column;
-      depth = p .height + 1 - p .depth; height = p .height * 2; turns = p .turns + 1; tumbles = p .tumbles + 1 })
-    (record { rows = p .rows / 2; columns = p .columns; row = p .row - p .rows / 2; column = p .column;
-      depth = p .depth + p .height; height = p .height * 2; turns = p .turns; tumbles = p .tumbles })
+    (record {
+      rows = p .rows / 2;
+      columns = p .columns;
+      row = p .rows / 2 + 1 - p .row;
+      column = p .column;
+      depth = p .height + 1 - p .depth;
+      height = p .height * 2;
+      turns = p .turns + 1;
+      tumbles = p .tumbles + 1;
+    })
+    (record {
+      rows = p .rows / 2;
+      columns = p .columns;
+      row = p .row - p .rows / 2;
+      column = p .column;
+      depth = p .depth + p .height;
+      height = p .height * 2;
+      turns = p .turns;
+      tumbles = p .tumbles;
+    })
 
 abbrev pub walk : Letters → CellState → CellState
 walk [] p = p

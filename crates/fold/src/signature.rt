@@ -1,4 +1,5 @@
 ghost use Prim.Native.Nat.{_≤_};
+ghost use mathlib.Core.Path.{_≡_};
 use crate::word::Word;
 
 mod methods;
@@ -9,4 +10,18 @@ pub struct Signature {
     word: Word,
     sheets: u32,
     ghost thickness: { (1 ≤ sheets) × (sheets ≤ 16) },
+}
+
+impl Signature {
+    pub fn word(&self) -> Word
+        ensures { λ r. ⌜ r ≡ now (self .entry) .word ⌝ }
+    {
+        self.word
+    }
+
+    pub fn sheets(&self) -> u32
+        ensures { λ r. ⌜ r ≡ now (self .entry) .sheets ⌝ }
+    {
+        self.sheets
+    }
 }

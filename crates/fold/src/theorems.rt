@@ -8,11 +8,9 @@ ghost use Rattle.fold.specs.Worked.{WorkedSheets};
 pub fn folding_reads_in_order()
     ensures follows { λ _. ⌜ LeavesFollowTheWalk ⌝ }
     ensures order { λ _. ⌜ FoldsInOrder ⌝ }
-{
-}
+{}
 
 /// Sheets worked out by hand: what schemes 1 and 2 show with one and two sheets, and the fold of scheme 2.
 pub fn worked_sheets()
     ensures { λ _. ⌜ WorkedSheets ⌝ }
-{
-}
+{}

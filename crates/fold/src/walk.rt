@@ -69,14 +69,14 @@ impl CellState {
         let last = 2 * self.depth;
         let over = self.turns % 2 == 1;
         let page = match side {
-            Side::Two => {
-                if over { last } else { last - 1 }
-            }
-            Side::One => {
-                if over { last - 1 } else { last }
-            }
+            Side::Two => { if over { last } else { last - 1 } }
+            Side::One => { if over { last - 1 } else { last } }
         };
-        let mark = if self.tumbles % 2 == 1 { Mark::Turned } else { Mark::Upright };
+        let mark = if self.tumbles % 2 == 1 {
+            Mark::Turned
+        } else {
+            Mark::Upright
+        };
         Cell { page, mark }
     }
 }

@@ -25,31 +25,33 @@ impl Signature {
         Some(Signature { word, sheets })
     }
 
-    pub fn word(&self) -> Word
-        ensures { λ r. ⌜ r ≡ now (self .entry) .word ⌝ }
+    /// The rows of each side.
+    pub fn rows(&self) -> u32
+        ensures { λ r. ⌜ r ≡ rows-of (lettersOf (now (self .entry))) ⌝ }
     {
-        self.word
+        self.word().rows()
     }
 
-    pub fn sheets(&self) -> u32
-        ensures { λ r. ⌜ r ≡ now (self .entry) .sheets ⌝ }
+    /// The columns of each side.
+    pub fn columns(&self) -> u32
+        ensures { λ r. ⌜ r ≡ columns-of (lettersOf (now (self .entry))) ⌝ }
     {
-        self.sheets
+        self.word().columns()
     }
 
     /// How many pages the signature takes: two for each cell of each sheet.
     pub fn pages(&self) -> u32
         ensures { λ r. ⌜ r ≡ pageCount (lettersOf (now (self .entry))) (now (self .entry) .sheets) ⌝ }
     {
-        2 * self.sheets * (self.word.rows() * self.word.columns())
+        2 * self.sheets * (self.rows() * self.columns())
     }
 
     /// The page and mark at a position, or None where the signature has no such position.
     pub fn cell(&self, at: Position) -> Option<Cell>
         ensures { λ r. ⌜ r ≡ cellAt (lettersOf (now (self .entry))) (now (self .entry) .sheets) at ⌝ }
     {
-        let rows = self.word.rows();
-        let columns = self.word.columns();
+        let rows = self.rows();
+        let columns = self.columns();
         if at.sheet == 0 || at.sheet > self.sheets {
             return None;
         }

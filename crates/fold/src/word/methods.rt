@@ -19,9 +19,15 @@ impl Word {
         match number {
             1 => Some(Word { mask: 0b0, len: 1 }),
             2 => Some(Word { mask: 0b01, len: 2 }),
-            3 => Some(Word { mask: 0b010, len: 3 }),
+            3 => Some(Word {
+                mask: 0b010,
+                len: 3,
+            }),
             4 => Some(Word { mask: 0b00, len: 2 }),
-            5 => Some(Word { mask: 0b0101, len: 4 }),
+            5 => Some(Word {
+                mask: 0b0101,
+                len: 4,
+            }),
             _ => None,
         }
     }
@@ -33,7 +39,10 @@ impl Word {
         if self.len >= 4 {
             return None;
         }
-        Some(Word { mask: letter.digit() << self.len | self.mask, len: self.len + 1 })
+        Some(Word {
+            mask: letter.digit() << self.len | self.mask,
+            len: self.len + 1,
+        })
     }
 
     /// One letter more after those so far, which may be none.
@@ -42,7 +51,10 @@ impl Word {
     {
         match so_far {
             Some(word) => word.push(letter),
-            None => Some(Word { mask: letter.digit(), len: 1 }),
+            None => Some(Word {
+                mask: letter.digit(),
+                len: 1,
+            }),
         }
     }
 

@@ -19,6 +19,10 @@ pub walk-requires : need.walk-requires
 walk-requires c κs =
     let g = c .args .self .now in
     let short : g .word .len ≤ 4 = g .word .lettered .1 in
-    let small : 2 ^ (g .word .len) ≤ 2 ^ 4 = pow-mono short in
-    (omega (arith, c .if-at-self .left), omega (arith, c .if-at-eq0 .left),
-      mul-le (g .sheets) (2 ^ (g .word .len)) 16 16 (g .thickness .1) small, omega arith, omega arith)
+    let small : 2 ^ (g .word .len) ≤ 2 ^ 4 = pow-mono short in (
+      omega (arith, c .if-at-self .left),
+      omega (arith, c .if-at-eq0 .left),
+      mul-le (g .sheets) (2 ^ (g .word .len)) 16 16 (g .thickness .1) small,
+      omega arith,
+      omega arith,
+    )

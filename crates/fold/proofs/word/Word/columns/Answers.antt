@@ -11,5 +11,5 @@ pub returns : need.returns
 returns c =
     let w = c .args .self .now in
     let e : w .len - ones (w .mask) ≡ count-W (letters (w .len) (w .mask)) =
-        omega (arith, count-all (letters (w .len) (w .mask)), length-letters (w .len) (w .mask), count-ones (w .len) (w .mask) (w .within)) in
+    omega (arith, count-all (letters (w .len) (w .mask)), length-letters (w .len) (w .mask), count-ones (w .len) (w .mask) (w .within)) in
     one-shl (w .len - ones (w .mask)) 32 (omega (arith, w .lettered .1)) ∙ ap (λ x. 2 ^ x) e

@@ -23,8 +23,8 @@ told : (c : ℕ) (l : Letter) → Some l ≡ letterOf c → c ≡ code l
 told c l = cond-both (eqb c 87) _ _ (λ (o : Option Letter). Some l ≡ o → c ≡ code l)
     (λ t e. let same : W ≡ l = cc in eqb-true c 87 t ∙ ap code same)
     (λ _. cond-both (eqb c 78) _ _ (λ (o : Option Letter). Some l ≡ o → c ≡ code l)
-      (λ t e. let same : N ≡ l = cc in eqb-true c 78 t ∙ ap code same)
-      (λ _ e. let z : _≡_ {A = ℕ} 0 1 = cc in absurd (omega arith)))
+    (λ t e. let same : N ≡ l = cc in eqb-true c 78 t ∙ ap code same)
+    (λ _ e. let z : _≡_ {A = ℕ} 0 1 = cc in absurd (omega arith)))
 
 pub returns-in-Break-letter : need.returns-in-Break-letter
 returns-in-Break-letter c = rw (c .from-residual .ensures) (λ u low short e.

@@ -27,7 +27,7 @@ loop-done-again c =
     let e : w .len - c .loop-done .done ≡ suc n = omega (arith, c .loop-done-test .taken) in
     let inv = subst (λ m. Leads end (c .loop-done .rest) m (c .loop-done .cell)) e (c .loop-done .inv) in
     let q : step (ofDigit (c .loop-done .rest % 2)) (c .loop-done .cell) ≡ c .take-cell .result =
-        ap (λ l. step l (c .loop-done .cell)) (sym (c .of-digit .ensures)) ∙ sym (c .take-cell .ensures) in
+    ap (λ l. step l (c .loop-done .cell)) (sym (c .of-digit .ensures)) ∙ sym (c .take-cell .ensures) in
     subst (Leads end (c .loop-done .rest / 2) n) q (inv .0, room-step n (ofDigit (c .loop-done .rest % 2)) (c .loop-done .cell) (inv .1))
 
 pub returns : need.returns
