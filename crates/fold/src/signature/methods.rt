@@ -1,8 +1,10 @@
+ghost use Prim.Native.Nat.{_^_, _≤_};
 ghost use Rattle.fold.specs.Folding.{pageCount};
 ghost use Rattle.fold.specs.Signatures.{ReadsInOrder, Thick, lettersOf};
 ghost use Rattle.fold.specs.Walk.{cellAt};
 ghost use Rattle.fold.specs.Words.{columns-of, rows-of};
 ghost use Rattle.std.specs.Options.{Cases};
+ghost use lib.ListN.{length};
 ghost use mathlib.Core.Path.{_≡_};
 use super::Signature;
 use crate::sheets::Cell;
@@ -39,11 +41,18 @@ impl Signature {
         self.word().columns()
     }
 
+    /// The cells of a side.
+    fn cells(&self) -> u32
+        ensures { λ r. ⌜ r ≡ 2 ^ length (lettersOf (now (self .entry))) ⌝ ∗ ⌜ r ≤ 16 ⌝ }
+    {
+        self.rows() * self.columns()
+    }
+
     /// How many pages the signature takes: two for each cell of each sheet.
     pub fn pages(&self) -> u32
         ensures { λ r. ⌜ r ≡ pageCount (lettersOf (now (self .entry))) (now (self .entry) .sheets) ⌝ }
     {
-        2 * self.sheets * (self.rows() * self.columns())
+        2 * self.sheets * self.cells()
     }
 
     /// The page and mark at a position, or None where the signature has no such position.

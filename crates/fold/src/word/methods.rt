@@ -1,15 +1,23 @@
-ghost use Prim.Native.Nat.{_≤_};
+ghost use Prim.Native.Nat.{_<_, _^_, _≤_};
 ghost use Rattle.fold.specs.Spelled.{Reads, soFar, spelled};
 ghost use Rattle.fold.specs.Walk.{WithRoom, walk};
-ghost use Rattle.fold.specs.Words.{columns-of, rows-of, scheme};
+ghost use Rattle.fold.specs.Words.{columns-of, count-N, count-W, rows-of, scheme};
 ghost use Rattle.std.specs.Finite.{nth};
 ghost use Rattle.std.specs.Options.{Cases, mapped};
+ghost use Rattle.std.specs.declared.option.Option.the-variants.{Some};
 ghost use lib.ListN.{length};
 ghost use mathlib.Core.List.{[], _++_, _∷_};
 ghost use mathlib.Core.Path.{_≡_};
 use super::Word;
 use crate::letters::Letter;
 use crate::walk::CellState;
+
+fn two_to(exponent: u32) -> u32
+    requires { ⌜ exponent ≤ 4 ⌝ }
+    ensures { λ r. ⌜ r ≡ 2 ^ exponent ⌝ }
+{
+    1 << exponent
+}
 
 impl Word {
     /// The word of a scheme: 1 is W, 2 NW, 3 WNW, 4 WW, 5 NWNW. There are no others.
@@ -70,6 +78,14 @@ impl Word {
         word
     }
 
+    /// The letter at an index that the word has.
+    fn letter_at(&self, index: u32) -> Letter
+        requires { ⌜ index < now self .len ⌝ }
+        ensures { λ r. ⌜ Some r ≡ nth (spelled (now (self .entry))) index ⌝ }
+    {
+        Letter::of_digit((self.mask >> index) % 2)
+    }
+
     /// The letter at an index, from 0: the order in which the folds are made.
     pub fn letter(&self, index: u32) -> Option<Letter>
         ensures { λ r. ⌜ r ≡ nth (spelled (now (self .entry))) index ⌝ }
@@ -77,21 +93,35 @@ impl Word {
         if index >= self.len as u32 {
             return None;
         }
-        Some(Letter::of_digit((self.mask >> index) % 2))
+        Some(self.letter_at(index))
+    }
+
+    /// How many letters are N: the ones of the mask.
+    fn count_n(&self) -> u32
+        ensures { λ r. ⌜ r ≡ count-N (spelled (now (self .entry))) ⌝ ∗ ⌜ r ≤ 4 ⌝ }
+    {
+        self.mask.count_ones()
+    }
+
+    /// How many letters are W: the others.
+    fn count_w(&self) -> u32
+        ensures { λ r. ⌜ r ≡ count-W (spelled (now (self .entry))) ⌝ ∗ ⌜ r ≤ 4 ⌝ }
+    {
+        self.len as u32 - self.mask.count_ones()
     }
 
     /// The rows of a side: two to the number of letters N.
     pub fn rows(&self) -> u32
         ensures { λ r. ⌜ r ≡ rows-of (spelled (now (self .entry))) ⌝ }
     {
-        1 << self.mask.count_ones()
+        two_to(self.count_n())
     }
 
     /// The columns of a side: two to the number of letters W.
     pub fn columns(&self) -> u32
         ensures { λ r. ⌜ r ≡ columns-of (spelled (now (self .entry))) ⌝ }
     {
-        1 << (self.len as u32 - self.mask.count_ones())
+        two_to(self.count_w())
     }
 
     /// Takes a cell through the letters, the first one first.

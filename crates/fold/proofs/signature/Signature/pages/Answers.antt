@@ -1,31 +1,9 @@
-use mathlib.Core.Path.{_≡_, ap, _∙_}
-use Prim.Native.Nat.{_*_, _^_, _≤_}
+use Prim.Native.Nat.{_*_, _≤_}
 use native.Mathlib.Omega.{arith}
-use lib.ListN.{length}
-use lib.Pow.{pow-mono}
 use Rattle.std.proofs.shelf.Bits.{mul-le}
-use Rattle.fold.specs.Spelled.{spelled}
-use Rattle.fold.proofs.Masks.{cells, length-letters}
 use Rattle.fold.proofs.signature.Signature.pages.Needs as need
-use Rattle.fold.proofs.signature.Signature.pages.Needs.{After-columns}
-
-cells-are : (c : After-columns) → c .rows .result * c .columns .result ≡ 2 ^ length (spelled (c .args .self .now .word))
-cells-are c = (λ i. c .rows .ensures i * c .columns .ensures i) ∙ cells (spelled (c .args .self .now .word))
-
-few : (c : After-columns) → c .rows .result * c .columns .result ≤ 16
-few c =
-    let w = c .args .self .now .word in
-    let short : length (spelled w) ≤ 4 = omega (arith, length-letters (w .len) (w .mask), w .lettered .1) in
-    let small : 2 ^ length (spelled w) ≤ 2 ^ 4 = pow-mono short in
-    omega (arith, cells-are c)
 
 pub mul-result-2 : need.mul-result-2
-mul-result-2 c = omega (arith, few c)
-
-pub mul-result-3 : need.mul-result-3
-mul-result-3 c =
+mul-result-2 c =
     let thick : 2 * c .args .self .now .sheets ≤ 32 = omega (arith, c .args .self .now .thickness .1) in
-    omega (arith, mul-le (2 * c .args .self .now .sheets) (c .rows .result * c .columns .result) 32 16 thick (few c))
-
-pub returns : need.returns
-returns c = ap (λ n. 2 * c .args .self .now .sheets * n) (cells-are c)
+    omega (arith, mul-le (2 * c .args .self .now .sheets) (c .cells .result) 32 16 thick (c .cells .ensures .1))
