@@ -1,0 +1,5 @@
+pub mod Splices
+pub mod Decimal
+pub mod Joins
+pub mod Searches
+pub mod Puts

@@ -1,0 +1,3 @@
+pub mod Pieces
+pub mod Searches
+pub mod Writes
