@@ -1,16 +1,17 @@
 //! The words of the command line.
 use crate::failure::Failure;
 use crate::failure::FailureFromAlloc;
+use crate::help;
 use fold::Signature;
 use fold::Word;
 use std::alloc::Global;
 
 #[derive(Drop)]
 pub enum Command {
-    Help,
-    FoldHelp,
-    Version,
+    /// A text about the program itself.
+    Help(&'static str),
     Fold { plan: bool, signature: Signature },
+    Check { is_listing: bool, name: String },
 }
 
 /// The signature that a scheme and a number of sheets name.
@@ -32,18 +33,18 @@ fn fold_words(heap: Global, words: &[String]) -> Result<Command, Failure> {
     for word in words {
         let text = word.as_str();
         if text == "--help" || text == "-h" {
-            return Ok(Command::FoldHelp);
+            return Ok(Command::Help(help::FOLD));
         }
         if text == "--plan" {
             plan = true;
         } else if text.starts_with('-') {
-            return Err(Failure::UnknownOption(String::from_str(heap, text)?));
+            return Err(Failure::UnknownOption("fold", String::from_str(heap, text)?));
         } else if scheme.is_none() {
             scheme = Some(text);
         } else if sheets.is_none() {
             sheets = Some(text);
         } else {
-            return Err(Failure::TooManyWords(String::from_str(heap, text)?));
+            return Err(Failure::TooManyWords("fold", String::from_str(heap, text)?));
         }
     }
     match (scheme, sheets) {
@@ -51,7 +52,38 @@ fn fold_words(heap: Global, words: &[String]) -> Result<Command, Failure> {
             plan,
             signature: signature(heap, scheme, sheets)?,
         }),
-        _ => Err(Failure::TooFewWords),
+        _ => Err(Failure::TooFewWords(
+            "fold",
+            "a scheme (1 to 5) and a number of sheets (1 to 16)",
+        )),
+    }
+}
+
+/// The words after `check`.
+fn check_words(heap: Global, words: &[String]) -> Result<Command, Failure> {
+    let mut is_listing = false;
+    let mut name: Option<&str> = None;
+    for word in words {
+        let text = word.as_str();
+        if text == "--help" || text == "-h" {
+            return Ok(Command::Help(help::CHECK));
+        }
+        if text == "--listing" {
+            is_listing = true;
+        } else if text.starts_with('-') && text != "-" {
+            return Err(Failure::UnknownOption("check", String::from_str(heap, text)?));
+        } else if name.is_none() {
+            name = Some(text);
+        } else {
+            return Err(Failure::TooManyWords("check", String::from_str(heap, text)?));
+        }
+    }
+    match name {
+        Some(text) => Ok(Command::Check {
+            is_listing,
+            name: String::from_str(heap, text)?,
+        }),
+        None => Err(Failure::TooFewWords("check", "a file, or - for standard input")),
     }
 }
 
@@ -61,9 +93,10 @@ pub fn read(heap: Global, words: &[String]) -> Result<Command, Failure> {
         return Err(Failure::NoCommand);
     };
     match command.as_str() {
-        "-h" | "--help" | "help" => Ok(Command::Help),
-        "-V" | "--version" => Ok(Command::Version),
+        "-h" | "--help" | "help" => Ok(Command::Help(help::PROGRAM)),
+        "-V" | "--version" => Ok(Command::Help(help::VERSION)),
         "fold" => fold_words(heap, rest),
+        "check" => check_words(heap, rest),
         other => Err(Failure::UnknownCommand(String::from_str(heap, other)?)),
     }
 }

@@ -1,4 +1,7 @@
 //! What can go wrong, and what the program then says.
+use pages::faults::Fault;
+use pages::faults::FaultDebug;
+use pages::faults::FaultDisplay;
 use std::alloc::AllocError;
 use std::fmt;
 use std::io;
@@ -7,11 +10,13 @@ use std::io;
 pub enum Failure {
     NoCommand,
     UnknownCommand(String),
-    UnknownOption(String),
-    TooFewWords,
-    TooManyWords(String),
+    UnknownOption(&'static str, String),
+    TooFewWords(&'static str, &'static str),
+    TooManyWords(&'static str, String),
     NoScheme(String),
     NoSheets(String),
+    Unread(String, io::Error),
+    Refused(Fault),
     Io(io::Error),
     OutOfMemory,
 }
@@ -21,23 +26,23 @@ pub impl fmt::Display for Failure as FailureDisplay {
         match self {
             Failure::NoCommand => write!(
                 f,
-                "no command given; commands are: fold (booklet --help tells more)"
+                "no command given; commands are: fold, check (booklet --help tells more)"
             ),
             Failure::UnknownCommand(word) => write!(
                 f,
-                "no command {word:?}; commands are: fold (booklet --help tells more)"
+                "no command {word:?}; commands are: fold, check (booklet --help tells more)"
             ),
-            Failure::UnknownOption(word) => write!(
+            Failure::UnknownOption(command, word) => write!(
                 f,
-                "fold: no option {word:?}; options are: --plan, --help"
+                "{command}: no option {word:?} (booklet {command} --help lists them)"
             ),
-            Failure::TooFewWords => write!(
+            Failure::TooFewWords(command, wanted) => write!(
                 f,
-                "fold: a scheme (1 to 5) and a number of sheets (1 to 16) are wanted"
+                "{command}: too few words; wanted are: {wanted}"
             ),
-            Failure::TooManyWords(word) => write!(
+            Failure::TooManyWords(command, word) => write!(
                 f,
-                "fold: {word:?} is one word too many; a scheme and a number of sheets are wanted"
+                "{command}: {word:?} is one word too many (booklet {command} --help tells more)"
             ),
             Failure::NoScheme(word) => write!(
                 f,
@@ -47,6 +52,8 @@ pub impl fmt::Display for Failure as FailureDisplay {
                 f,
                 "fold: no signature of {word:?} sheets; allowed are 1 to 16"
             ),
+            Failure::Unread(name, error) => write!(f, "cannot read {name}: {error}"),
+            Failure::Refused(fault) => write!(f, "refused {fault}"),
             Failure::Io(error) => write!(f, "{error}"),
             Failure::OutOfMemory => write!(f, "out of memory"),
         }
@@ -56,6 +63,12 @@ pub impl fmt::Display for Failure as FailureDisplay {
 pub impl From<io::Error> for Failure as FailureFromIo {
     fn from(error: io::Error) -> Failure {
         Failure::Io(error)
+    }
+}
+
+pub impl From<Fault> for Failure as FailureFromFault {
+    fn from(fault: Fault) -> Failure {
+        Failure::Refused(fault)
     }
 }
 

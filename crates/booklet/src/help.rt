@@ -2,12 +2,13 @@
 
 pub const VERSION: &str = "booklet 0.1.0\n";
 
-pub const TEXT: &str = "booklet: sheets that fold into signatures
+pub const PROGRAM: &str = "booklet: sheets that fold into signatures
 
 usage: booklet COMMAND ...
 
 commands:
   fold [--plan] SCHEME SHEETS   print the sheets of one signature
+  check [--listing] FILE        tell what a file holds, or where and why it is refused
 
 options:
   -h, --help       print this text; booklet COMMAND --help tells more of a command
@@ -26,4 +27,22 @@ usage: booklet fold [--plan] SCHEME SHEETS
             signature, sheet, side, row, column, page, mark (0 upright, 1 head down)
 
 example: booklet fold 2 1
+";
+
+pub const CHECK: &str = "booklet check: what a file holds, or where and why it is refused
+
+usage: booklet check [--listing] FILE
+
+  FILE         a PostScript file with document structuring comments; - is standard input
+  --listing    FILE is a line-printer listing: lines of text, pages parted by form feeds
+
+It prints the size of the pages, the number of leaves, and for each leaf its place in the
+file; leaf 0 is the preamble, and each page of a PostScript file has its label:
+  size W H
+  leaves N
+  leaf I offset O length L [label TEXT]
+A refused file gets one line on standard error, and status 1:
+  booklet: refused NUMBER NAME layer L page P offset O
+
+example: booklet check book.ps
 ";

@@ -1,6 +1,8 @@
-//! The program: arguments, messages and output. What matters is in the libraries.
+//! The program: arguments, files, messages and output. What matters is in the libraries.
 mod arguments;
+mod check;
 mod failure;
+mod files;
 mod help;
 
 use arguments::Command;
@@ -14,9 +16,7 @@ fn run(rt: &LibcRuntime) -> Result<(), Failure> {
     let heap = rt.alloc();
     let words: Vec<String> = env::args(rt)?.collect(heap)?;
     match arguments::read(heap, words.as_slice())? {
-        Command::Help => rt.print(help::TEXT)?,
-        Command::FoldHelp => rt.print(help::FOLD)?,
-        Command::Version => rt.print(help::VERSION)?,
+        Command::Help(text) => rt.print(text)?,
         Command::Fold { plan, signature } => {
             if plan {
                 charts::print_plan(rt, &signature)?;
@@ -24,6 +24,7 @@ fn run(rt: &LibcRuntime) -> Result<(), Failure> {
                 charts::print_sheets(rt, &signature)?;
             }
         }
+        Command::Check { is_listing, name } => check::check(rt, name.as_str(), is_listing)?,
     }
     Ok(())
 }

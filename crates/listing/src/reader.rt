@@ -12,6 +12,7 @@ pub mod loading;
 pub mod source;
 
 /// A reader of a listing, which holds the file and its index for reading and copies neither.
+#[derive(Drop)]
 pub struct Listing<'a> {
     pub(crate) file: &'a [u8],
     pub(crate) index: &'a [u32],

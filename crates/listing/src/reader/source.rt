@@ -52,15 +52,15 @@ pub impl<'a> Source for Listing<'a> as ListingSource {
     }
 
     fn leaves(&self) -> u32 {
-        self.leaves
+        self.leaves // but for the preamble
     }
 
     fn pages(&self) -> u32 {
-        self.leaves
+        self.leaves // each leaf is a page
     }
 
     fn depth(&self) -> u8 {
-        1
+        1 // a reader is the lowest layer
     }
 
     fn laid(&self, page: u32) -> Result<u32, Fault> {

@@ -1,0 +1,16 @@
+pub mod Spans
+pub mod Keywords
+pub mod FirstLine
+pub mod Turns
+pub mod Pairs
+pub mod Grows
+pub mod Calm
+pub mod Wholes
+pub mod Accepted
+pub mod Rebuilt
+pub mod Ranges
+pub mod Indexed
+pub mod Placed
+pub mod Joined
+pub mod Words
+pub mod Backs

@@ -1,0 +1,12 @@
+pub mod Bounds
+pub mod Lines
+pub mod Values
+pub mod Comments
+pub mod Scans
+pub mod Readings
+pub mod ScanAnswers
+pub mod Readers
+pub mod Documents
+pub mod Loads
+pub mod Joins
+pub mod Printed
