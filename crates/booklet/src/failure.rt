@@ -3,6 +3,7 @@ use pages::faults::Fault;
 use pages::faults::FaultDebug;
 use pages::faults::FaultDisplay;
 use std::alloc::AllocError;
+use std::alloc::Refused;
 use std::fmt;
 use std::io;
 
@@ -13,6 +14,8 @@ pub enum Failure {
     UnknownOption(&'static str, String),
     TooFewWords(&'static str, &'static str),
     TooManyWords(&'static str, String),
+    BadValue(String, String),
+    TooManyLayers,
     NoScheme(String),
     NoSheets(String),
     Unread(String, io::Error),
@@ -26,11 +29,11 @@ pub impl fmt::Display for Failure as FailureDisplay {
         match self {
             Failure::NoCommand => write!(
                 f,
-                "no command given; commands are: fold, check (booklet --help tells more)"
+                "no command given; commands are: fold, check, pages (booklet --help tells more)"
             ),
             Failure::UnknownCommand(word) => write!(
                 f,
-                "no command {word:?}; commands are: fold, check (booklet --help tells more)"
+                "no command {word:?}; commands are: fold, check, pages (booklet --help tells more)"
             ),
             Failure::UnknownOption(command, word) => write!(
                 f,
@@ -44,6 +47,8 @@ pub impl fmt::Display for Failure as FailureDisplay {
                 f,
                 "{command}: {word:?} is one word too many (booklet {command} --help tells more)"
             ),
+            Failure::BadValue(option, value) => write!(f, "{option}: the value {value:?} cannot be read; wanted are --select A-B, --pad M, --turn Q, --reduce N/D, --signature SCHEME SHEETS with whole numbers"),
+            Failure::TooManyLayers => write!(f, "more than 8 layers; neighbouring --select words are one layer"),
             Failure::NoScheme(word) => write!(
                 f,
                 "fold: no scheme {word:?}; schemes are 1 (W), 2 (NW), 3 (WNW), 4 (WW), 5 (NWNW)"
@@ -74,6 +79,12 @@ pub impl From<Fault> for Failure as FailureFromFault {
 
 pub impl From<AllocError> for Failure as FailureFromAlloc {
     fn from(_error: AllocError) -> Failure {
+        Failure::OutOfMemory
+    }
+}
+
+pub impl<T: Drop> From<Refused<T>> for Failure as FailureFromRefused {
+    fn from(_refused: Refused<T>) -> Failure {
         Failure::OutOfMemory
     }
 }

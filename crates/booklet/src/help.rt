@@ -9,6 +9,8 @@ usage: booklet COMMAND ...
 commands:
   fold [--plan] SCHEME SHEETS   print the sheets of one signature
   check [--listing] FILE        tell what a file holds, or where and why it is refused
+  pages [--listing] FILE [LAYER..]
+                                show what the pages are under some layers
 
 options:
   -h, --help       print this text; booklet COMMAND --help tells more of a command
@@ -45,4 +47,32 @@ A refused file gets one line on standard error, and status 1:
   booklet: refused NUMBER NAME layer L page P offset O
 
 example: booklet check book.ps
+";
+
+pub const PAGES: &str = "booklet pages: what the pages of a file are under some layers
+
+usage: booklet pages [--listing] FILE [LAYER..]
+
+  FILE         a PostScript file with document structuring comments; - is standard input
+  --listing    FILE is a line-printer listing
+
+Layers are put on in the order written, at most 8; neighbouring --select words are orders of
+one layer:
+  --select A-B               pages A to B, upward or downward; 0-0 is a blank page
+  --pad M                    blank pages at the end until M divides their number (1 to 512)
+  --turn Q                   every page turned by Q quarter turns (0 to 3)
+  --reduce N/D               every page scaled by N over D (1 to 1000, N at most D)
+  --signature SCHEME SHEETS  pages laid on the sides of sheets (see booklet fold --help)
+
+It prints the size, the number of pages and the depth, and for each placement its page, its
+slot on the page, its leaf and its map (quarter turns, numerator, denominator, vector):
+  size W H
+  pages P
+  depth D
+  page I slot J leaf L map Q N D VX VY
+  page I blank
+A refusal gets one line on standard error, and status 1:
+  booklet: refused NUMBER NAME layer L page P offset O
+
+example: booklet pages book.ps --select 1-8 --pad 8 --signature 2 1
 ";

@@ -4,6 +4,8 @@ mod check;
 mod failure;
 mod files;
 mod help;
+mod layered;
+mod show;
 
 use arguments::Command;
 use failure::Failure;
@@ -25,6 +27,7 @@ fn run(rt: &LibcRuntime) -> Result<(), Failure> {
             }
         }
         Command::Check { is_listing, name } => check::check(rt, name.as_str(), is_listing)?,
+        Command::Pages { is_listing, name, orders } => layered::pages(rt, name.as_str(), is_listing, orders.as_slice())?,
     }
     Ok(())
 }

@@ -1,8 +1,8 @@
--- An accepted DSC file has its parts. Assumes nothing.
+-- An accepted DSC file has its parts.
 use mathlib.Core.Path.{_≡_, refl, sym, ap, subst, _∙_}
 use mathlib.Core.Bool.{Bool, true, false, cond, not, _&&_}
 use mathlib.Core.List.{List, [], _∷_, _++_}
-use Prim.Native.Nat.{ℕ, _+_, _-_, _≤_, _<_}
+use Prim.Native.Nat.{ℕ, _+_, _-_, _≤_}
 use native.Mathlib.Omega.{arith}
 use lib.Dec.{eqb, ltb}
 use lib.ListN.{length, take, length-append}
@@ -15,7 +15,7 @@ use Rattle.std.specs.declared.option.Option.the-variants.{Some, None}
 use Rattle.std.specs.declared.result.Result.{Result}
 use Rattle.std.specs.declared.result.Result.the-variants.{Ok, Err}
 use Rattle.pages.specs.declared.faults.Fault.{Fault}
-use Rattle.pages.specs.declared.faults.Refusal.the-variants.{NotDsc, OutOfOrder, Miscount, TooLong}
+use Rattle.pages.specs.declared.faults.Refusal.the-variants.{NotDsc, Miscount, TooLong}
 use Rattle.pages.specs.declared.maps.Size.{Size}
 use Rattle.pages.specs.Pieces.{Piece, fresh, after, done, AllCalm}
 use Rattle.pages.specs.Inks.{Context, plain, lines, line, lines-of, text-of, Ink}
@@ -24,9 +24,9 @@ use Rattle.dsc.specs.declared.scanner.Part.{Part}
 use Rattle.dsc.specs.declared.scanner.Part.the-variants.{Head, Preamble, Leaves}
 use Rattle.dsc.specs.declared.scanner.Scanner.{Scanner}
 use Rattle.dsc.specs.Bounds.{longest, mark}
-use Rattle.dsc.specs.Comments.{Kind, end-comments, trailer, pages, box, page, other, kind}
+use Rattle.dsc.specs.Comments.{Kind, end-comments, trailer, pages, box, page, other}
 use Rattle.pages.specs.Meaning.{fault}
-use Rattle.dsc.specs.Scans.{Read, read, follow, run, start, scanned, letter, Step, goes, ends, stops, in-head, in-body, by-part, step, pair, at-line, kind-of, end-head, take-pages, take-size, open-leaf}
+use Rattle.dsc.specs.Scans.{Read, read, follow, run, start, scanned, letter, goes, ends, stops, in-head, in-body, by-part, pair, at-line, kind-of, end-head}
 use Rattle.dsc.specs.Documents as doc
 use Rattle.dsc.specs.Documents.{Line, Heads, AllHead, pages-or, size-or, first-pages, first-size, Leaf, bytes-of, index-of, Numbered, Ends, Document}
 use Rattle.dsc.proofs.Calm.{calm, kind-calm}

@@ -1,6 +1,5 @@
--- A printed job, read back. Assumes nothing.
+-- A printed job, read back.
 use mathlib.Core.Path.{_≡_, refl, sym, ap, subst, _∙_}
-use mathlib.Core.Bool.{true}
 use mathlib.Core.List.{List, [], _∷_, _++_}
 use Prim.Native.Nat.{ℕ, _+_, _≤_, _<_}
 use native.Mathlib.Omega.{arith}
@@ -8,22 +7,20 @@ use lib.Chars.{codes}
 use lib.ListN.{length, getD}
 use Rattle.std.specs.Written.{decimal}
 use Rattle.std.specs.declared.option.Option.the-variants.{Some}
-use Rattle.std.specs.declared.result.Result.{Result}
 use Rattle.std.specs.declared.result.Result.the-variants.{Ok}
 use Rattle.std.proofs.shelf.Lists.{append-assoc}
-use Rattle.pages.specs.declared.faults.Fault.{Fault}
 use Rattle.pages.specs.declared.maps.Size.{Size}
 use Rattle.pages.specs.Pieces.{Piece, fresh, after, done}
-use Rattle.pages.specs.Inks.{Context, plain, lines, line, lines-of, last-byte, unbroken, Ink}
+use Rattle.pages.specs.Inks.{Context, plain, lines, line, lines-of, last-byte}
 use Rattle.pages.proofs.Cuts.{after-append, done-append}
 use Rattle.dsc.specs.Bounds.{mark}
-use Rattle.dsc.specs.Comments.{Kind, end-comments, trailer, pages, box, page, other, kind}
+use Rattle.dsc.specs.Comments.{Kind, end-comments, trailer, pages, box, page, other}
 use Rattle.dsc.specs.Scans.{Read, scanned, meant, meant-by, kind-of}
 use Rattle.dsc.specs.Readers.{ink-of}
 use Rattle.dsc.specs.Documents.{Line, Heads, AllHead, pages-or, size-or, first-pages, first-size, Head, Leaf, bytes-of, inks-of, index-of, Numbered, Ends, Document}
-use Rattle.dsc.specs.Printed.{row, box-text, pages-text, page-text, opening, sides, ending, printed, AllInk, Job, Shows, Reads-back}
+use Rattle.dsc.specs.Printed.{row, box-text, pages-text, page-text, sides, ending, printed, AllInk, Job, Shows, Reads-back}
 use Rattle.dsc.proofs.Wholes.{behind}
-use Rattle.dsc.proofs.Words.{Digs, digs-decimal, some-decimal, page-kind, pages-kind, box-kind, unbroken-digs, unbroken-only, last-digs, row-line}
+use Rattle.dsc.proofs.Words.{numeral, page-kind, pages-kind, box-kind, unbroken-digs, unbroken-only, last-digs, row-line}
 use Rattle.dsc.proofs.Rebuilt.{whole}
 use Rattle.dsc.proofs.Indexed.{inks}
 
@@ -46,11 +43,11 @@ sides-count s (b ∷ bs) = let e = sides-count (s + 1) bs in omega arith
 
 page-line : (s : ℕ) → s < 100000 → Line (page (decimal s) (Some s)) (row (page-text s))
 page-line s small =
-    let d = digs-decimal s small in
+    let d = numeral s small .digits in
     row-line (page-text s) _ (unbroken-digs (decimal s) (32 ∷ decimal s) d (unbroken-only (decimal s) d)) (last-page s small) (page-kind s small)
   where
     last-page : (s : ℕ) → s < 100000 → last-byte (page-text s) ≡ 13 → ⊥
-    last-page s small e = last-digs (codes "%%Page: " ++ (decimal s ++ 32 ∷ [])) (decimal s) (digs-decimal s small) (some-decimal s small) (ap last-byte (ap (λ x. codes "%%Page: " ++ x) (append-assoc (decimal s) (32 ∷ []) (decimal s))) ∙ e)
+    last-page s small e = last-digs (codes "%%Page: " ++ (decimal s ++ 32 ∷ [])) (decimal s) (numeral s small .digits) (numeral s small .some) (ap last-byte (ap (λ x. codes "%%Page: " ++ x) (append-assoc (decimal s) (32 ∷ []) (decimal s))) ∙ e)
 
 numbered : (s : ℕ) (bs : List (List ℕ)) → s + length bs ≤ 4097 → AllInk bs → Numbered s (leaves-from s bs)
 numbered s [] few all = tt
@@ -107,13 +104,13 @@ module _ (w h : ℕ) (pre : List ℕ) (bodies : List (List ℕ)) (job : Job w h 
   small-n = omega (arith, job .few)
 
   last-box : last-byte (box-text w h) ≡ 13 → ⊥
-  last-box e = last-digs (codes "%%BoundingBox: 0 0 " ++ (decimal w ++ 32 ∷ [])) (decimal h) (digs-decimal h small-h) (some-decimal h small-h) (ap last-byte (ap (λ x. codes "%%BoundingBox: 0 0 " ++ x) (append-assoc (decimal w) (32 ∷ []) (decimal h))) ∙ e)
+  last-box e = last-digs (codes "%%BoundingBox: 0 0 " ++ (decimal w ++ 32 ∷ [])) (decimal h) (numeral h small-h .digits) (numeral h small-h .some) (ap last-byte (ap (λ x. codes "%%BoundingBox: 0 0 " ++ x) (append-assoc (decimal w) (32 ∷ []) (decimal h))) ∙ e)
 
   box-line : Line (box (Some z)) b-row
-  box-line = row-line (box-text w h) _ (unbroken-digs (decimal w) (32 ∷ decimal h) (digs-decimal w small-w) (unbroken-only (decimal h) (digs-decimal h small-h))) last-box (box-kind w h (job .wide .0) (job .wide .1) (job .high .0) (job .high .1))
+  box-line = row-line (box-text w h) _ (unbroken-digs (decimal w) (32 ∷ decimal h) (numeral w small-w .digits) (unbroken-only (decimal h) (numeral h small-h .digits))) last-box (box-kind w h (job .wide .0) (job .wide .1) (job .high .0) (job .high .1))
 
   pages-line : Line (pages (Some n)) p-row
-  pages-line = row-line (pages-text n) _ (unbroken-only (decimal n) (digs-decimal n small-n)) (last-digs (codes "%%Pages: ") (decimal n) (digs-decimal n small-n) (some-decimal n small-n)) (pages-kind n (job .few))
+  pages-line = row-line (pages-text n) _ (unbroken-only (decimal n) (numeral n small-n .digits)) (last-digs (codes "%%Pages: ") (decimal n) (numeral n small-n .digits) (numeral n small-n .some)) (pages-kind n (job .few))
 
   rows : done lines (fresh plain) head ≡ line (row mark) ∷ line b-row ∷ line p-row ∷ []
   rows = more-done other (row mark) (b-row ++ p-row) mark-line ∙ ap (λ (ps : List (Piece Context)). line (row mark) ∷ ps) (more-done (box (Some z)) b-row p-row box-line ∙ ap (λ (ps : List (Piece Context)). line b-row ∷ ps) (pages-line .single))

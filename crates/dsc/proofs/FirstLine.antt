@@ -1,15 +1,15 @@
--- The first line of a file, and the lines behind it. Assumes nothing.
+-- The first line of a file, and the lines behind it.
 use mathlib.Core.Path.{_≡_, refl, sym, ap, _∙_}
 use mathlib.Core.Bool.{Bool, true, false, cond, not}
 use mathlib.Core.Logic.{⊎-elim}
 use mathlib.Core.List.{List, [], _∷_, _++_}
-use Prim.Native.Nat.{ℕ, suc, _+_, _≤_, _<_, min}
+use Prim.Native.Nat.{ℕ, suc, _+_, _≤_, _<_}
 use native.Mathlib.Omega.{arith}
 use lib.Dec.{eqb}
 use lib.ListN.{length, take, drop}
 use Rattle.std.proofs.shelf.Tests.{cond-true, cond-false, cases-bool, not-from-true, not-from-false}
 use Rattle.std.proofs.shelf.Lists.{append-assoc}
-use Rattle.pages.specs.Pieces.{Piece, fresh, grown, done, unended, after, pieces}
+use Rattle.pages.specs.Pieces.{Piece, fresh, done, unended, after, pieces}
 use Rattle.pages.specs.Inks.{Context, plain, lines, line, lines-of}
 use Rattle.pages.proofs.Lines.{last-push}
 use Rattle.dsc.specs.Lines.{until, line-len}

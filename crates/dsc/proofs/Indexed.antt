@@ -1,15 +1,12 @@
--- What the pairs of an index cut out of the file. Assumes nothing.
+-- What the pairs of an index cut out of the file.
 use mathlib.Core.Path.{_≡_, refl, sym, ap, subst, _∙_}
 use mathlib.Core.List.{List, [], _∷_, _++_}
 use Prim.Native.Nat.{ℕ, zero, suc, _+_, _-_, _*_, _≤_, _<_}
 use native.Mathlib.Omega.{arith}
-use lib.ListN.{length, take, drop, getD, length-append, length-drop}
-use mathlib.Core.Bool.{true, false, _&&_}
-use mathlib.Core.Logic.{⊎-elim}
-use Rattle.std.specs.shelf.Text.{sameBytes}
-use Rattle.std.proofs.shelf.Equals.{sameBytes-decides}
+use lib.ListN.{length, take, drop, getD, length-append}
+use mathlib.Core.Bool.{true, _&&_}
 use lib.Dec.{leb}
-use Rattle.std.proofs.shelf.Tests.{and-from, le-leb, cond-true, cond-false, cases-bool}
+use Rattle.std.proofs.shelf.Tests.{and-from, le-leb}
 use Rattle.pages.specs.Maps.{fits, identity}
 use Rattle.std.proofs.shelf.Lists.{take-at, drop-at, append-assoc, length-take, getD-take}
 use Rattle.std.specs.declared.option.Option.the-variants.{Some}
@@ -18,13 +15,13 @@ use Rattle.std.specs.declared.result.Result.the-variants.{Ok, Err}
 use Rattle.pages.specs.declared.faults.Fault.{Fault}
 use Rattle.pages.specs.Limits.{maxPages, maxInk}
 use Rattle.pages.specs.Inks.{lines, text-of, Ink}
-use Rattle.pages.specs.Meaning.{Meaning, Lawful}
+use Rattle.pages.specs.Meaning.{Lawful}
 use Rattle.pages.specs.Pieces.{fresh, done}
 use Rattle.pages.specs.Inks.{plain}
 use Rattle.pages.proofs.Cuts.{inked-none}
 use Rattle.dsc.specs.Comments.{kind, page}
 use Rattle.dsc.specs.Scans.{Read, scanned, meant, meant-by}
-use Rattle.dsc.specs.Readers.{Held, ink-of, meaning-of, Refuses, load-answer}
+use Rattle.dsc.specs.Readers.{Held, ink-of, meaning-of}
 use Rattle.dsc.specs.Documents.{Leaf, bytes-of, inks-of, index-of, Numbered, Document}
 use Rattle.dsc.proofs.Accepted.{parts}
 use Rattle.dsc.proofs.Ranges.{Sides, announced-few, announced-sides}
@@ -220,16 +217,3 @@ lawful file =
       laid = λ p a b. omega arith;
       placed = λ p a b. and-from (leb 1 p && leb p (meant file .leaves) && fits identity) true (and-from (leb 1 p && leb p (meant file .leaves)) true (and-from (leb 1 p) _ (le-leb _ _ a) (le-leb _ _ b)) refl) refl;
     }
-
-not-same : (xs ys : List ℕ) → (xs ≡ ys → ⊥) → sameBytes xs ys ≡ false
-not-same xs ys n = ⊎-elim (λ t. absurd (n (sameBytes-decides xs ys .0 t))) (λ f. f) (cases-bool (sameBytes xs ys))
-
--- load's answer, by what its reading found
-pub load-refused : (r : Result Read Fault) (index : List ℕ) (f : Fault) → Refuses index f r → Err f ≡ load-answer r index
-load-refused (Err g) index f e = ap (λ (h : Fault). Err h) e
-load-refused (Ok o) index f e = ap (λ (h : Fault). Err h) (e .0) ∙ sym (cond-false _ _ _ (not-same (take (length (o .index)) index) (o .index) (e .1)))
-
-pub load-accepted : (file index : List ℕ) (n : ℕ) → scanned file ≡ Ok (meant file) → n ≡ meant file .leaves → Held file index → Ok n ≡ load-answer (scanned file) index
-load-accepted file index n e is h =
-    ap (λ m. Ok m) is
-    ∙ sym (ap (λ (r : Result Read Fault). load-answer r index) e ∙ cond-true _ _ _ (sameBytes-decides (take (length (meant file .index)) index) (meant file .index) .1 h))

@@ -1,4 +1,4 @@
--- A reading goes on from where its first lines left it. Assumes nothing.
+-- A reading goes on from where its first lines left it.
 use mathlib.Core.Path.{_≡_, refl, sym, ap, _∙_}
 use mathlib.Core.List.{List, [], _∷_, _++_}
 use Prim.Native.Nat.{ℕ, _+_}
@@ -14,7 +14,7 @@ use Rattle.pages.proofs.Cuts.{after-append}
 use Rattle.pages.proofs.Lines.{last-push}
 use Rattle.dsc.specs.declared.scanner.Scanner.{Scanner}
 use Rattle.dsc.specs.Scans.{Read, Step, goes, ends, stops, step, follow, kind-of, run, start}
-use Rattle.dsc.specs.Joins.{After, still, over, go-on, after-lines, after-front, resume, Readings-join}
+use Rattle.dsc.specs.Joins.{After, go-on, after-lines, resume, Readings-join}
 use Rattle.dsc.proofs.Wholes.{behind}
 
 one-more : (t : Step) (xs : List ℕ) (ps : List (Piece Context)) (k : Scanner → List ℕ → Result Read Fault) (j : Scanner → List ℕ → After) → ((s : Scanner) (ys : List ℕ) → k s ys ≡ resume (j s ys) ps) → follow t xs k ≡ resume (go-on t xs j) ps

@@ -1,10 +1,10 @@
--- Which kind a line is. Assumes nothing.
-use mathlib.Core.Path.{_≡_, refl, sym, ap, _∙_}
-use mathlib.Core.Bool.{Bool, true, false, cond, not, _&&_, _||_}
-use mathlib.Core.List.{List, [], _∷_}
-use Prim.Native.Nat.{ℕ, _+_, _-_, _*_, _≤_, _<_}
+-- Which kind a line is.
+use mathlib.Core.Path.{_≡_, sym, ap, _∙_}
+use mathlib.Core.Bool.{Bool, true, false, _||_}
+use mathlib.Core.List.{List}
+use Prim.Native.Nat.{ℕ, _+_, _-_, _≤_}
 use native.Mathlib.Omega.{arith}
-use lib.Dec.{eqb, leb, ltb}
+use lib.Dec.{eqb, ltb}
 use lib.Chars.{codes}
 use lib.ListN.{length, getD, take, drop, length-drop}
 use denote.Ref.{RefT, now}
@@ -13,18 +13,14 @@ use Rattle.std.specs.Options.{Cases, mapped}
 use Rattle.std.specs.Orderings.{Decides}
 use Rattle.std.specs.shelf.Text.{sameBytes}
 use Rattle.std.proofs.shelf.Equals.{matches-decides, sameBytes-decides}
-use Rattle.std.proofs.shelf.Ways.{same-from-decides, tells}
-use Rattle.std.proofs.shelf.Tests.{cond-true, cond-false, eq-eqb, ne-eqb, and-from, cond-both, ltb-true}
-use Rattle.std.proofs.shelf.Lists.{length-take-le, length-take}
+use Rattle.std.proofs.shelf.Ways.{same-from-decides}
+use Rattle.std.proofs.shelf.Tests.{cond-true, cond-false, ne-eqb, cond-both, ltb-true}
+use Rattle.std.proofs.shelf.Lists.{length-take}
 use Rattle.std.specs.declared.option.Option.{Option}
 use Rattle.std.specs.declared.option.Option.the-variants.{Some, None}
 use Rattle.dsc.specs.Lines.{until}
-use Rattle.dsc.specs.Values.{trim, word-of, blanks}
-use Rattle.dsc.specs.Comments.{Kind, end-comments, trailer, pages, box, page, other, keyword-of, strip, else-pages, else-box, else-page, pages-of, box-of, paged, label-of, ordinal-of, label-len, paren-len, plain-len}
-use Rattle.dsc.proofs.Spans.{until-le}
-
-abbrev Eq : ℕ → ℕ → Bool → Type 0
-Eq a b t = Decides t (a ≡ b)
+use Rattle.dsc.specs.Values.{word-of}
+use Rattle.dsc.specs.Comments.{end-comments, pages, box, other, keyword-of, strip, else-pages, else-box, else-page, pages-of, box-of, paged, label-of, ordinal-of, label-len, plain-len}
 
 pub same-is : (xs ys : List ℕ) (r : Bool) → Matches (λ (a b : ℕ) (t : Bool). Decides t (a ≡ b)) xs ys r → sameBytes xs ys ≡ r
 same-is xs ys r h = same-from-decides _ _ (sameBytes-decides xs ys) (matches-decides xs ys r h)
@@ -38,9 +34,6 @@ module _ (rest : List ℕ) where
   at-end e = cond-true _ _ _ e
 
   module _ (e : sameBytes rest (codes "EndComments") ≡ false) where
-    pub at-trailer : sameBytes rest (codes "Trailer") ≡ true → keyword-of rest ≡ trailer
-    at-trailer t = cond-false _ _ _ e ∙ cond-true _ _ _ t
-
     module _ (t : sameBytes rest (codes "Trailer") ≡ false) where
       past : keyword-of rest ≡ else-pages (strip (codes "Pages:") rest) (else-box (strip (codes "BoundingBox:") rest) (else-page (strip (codes "Page:") rest)))
       past = cond-false _ _ _ e ∙ cond-false _ _ _ t

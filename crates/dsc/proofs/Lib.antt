@@ -14,3 +14,6 @@ pub mod Placed
 pub mod Joined
 pub mod Words
 pub mod Backs
+pub mod Grammars
+pub mod InkParts
+pub mod Checks

@@ -1,68 +1,25 @@
--- A label stands in its line, and so in the file. Assumes nothing.
+-- A label stands in its line, and so in the file.
 use mathlib.Core.Path.{_≡_, refl, sym, ap, subst, _∙_}
-use mathlib.Core.Bool.{Bool, true, false, cond, _&&_}
-use mathlib.Core.Logic.{⊎-elim}
-use mathlib.Core.List.{List, [], _∷_, _++_}
-use Prim.Native.Nat.{ℕ, zero, suc, _+_, _-_, _≤_, _<_}
+use mathlib.Core.List.{List}
+use Prim.Native.Nat.{ℕ, zero, suc, _+_, _-_, _≤_}
 use native.Mathlib.Omega.{arith}
 use lib.Dec.{eqb}
-use lib.Chars.{codes}
-use lib.ListN.{length, take, drop, getD, length-drop}
-use Rattle.std.specs.declared.option.Option.{Option}
-use Rattle.std.specs.declared.option.Option.the-variants.{Some, None}
-use Rattle.std.specs.shelf.Text.{sameBytes}
+use lib.ListN.{length, take, drop, length-drop}
+use Rattle.std.specs.declared.option.Option.the-variants.{Some}
 use Rattle.std.proofs.shelf.Lists.{take-all, take-take, drop-take, drop-drop, length-take-le, length-take}
-use Rattle.std.proofs.shelf.Tests.{cond-both, cases-bool}
+use Rattle.std.proofs.shelf.Tests.{cond-both}
 use Rattle.pages.specs.Inks.{last-byte, shorter, uncarried, text-of}
 use Rattle.dsc.specs.Values.{blanks, trim}
-use Rattle.dsc.specs.Comments.{Kind, end-comments, trailer, pages, box, page, other, kind, keyword-of, keyword-or, marked-of, strip, else-pages, else-box, else-page, paged, label-of, label-len, ordinal-of}
+use Rattle.dsc.specs.Comments.{page, kind, label-of, label-len, ordinal-of}
 use Rattle.dsc.specs.Loads.{label-place}
+use Rattle.dsc.proofs.Grammars.{Reads, kind-reads, paged-is}
 use Rattle.dsc.proofs.Keywords.{label-len-le}
 
-module _ (lab : List ℕ) (n : ℕ) where
-  abbrev Not : Kind → Type 0
-  Not k = k ≡ page lab (Some n) → ⊥
-
-  not-end : Not end-comments
-  not-end e = let z : _≡_ {A = ℕ} 0 1 = cc in omega arith
-
-  not-trailer : Not trailer
-  not-trailer e = let z : _≡_ {A = ℕ} 0 1 = cc in omega arith
-
-  not-pages : (v : Option ℕ) → Not (pages v)
-  not-pages v e = let z : _≡_ {A = ℕ} 0 1 = cc in omega arith
-
-  not-other : Not other
-  not-other e = let z : _≡_ {A = ℕ} 0 1 = cc in omega arith
-
-  paged-label : (l : List ℕ) (o : Option ℕ) → paged l o ≡ page lab (Some n) → l ≡ lab
-  paged-label l None e = absurd (let z : _≡_ {A = ℕ} 0 1 = cc in omega arith)
-  paged-label l (Some m) e = cc
-
-  module _ (r : List ℕ) where
-    abbrev Is : Kind → Type 0
-    Is k = k ≡ page lab (Some n) → label-of (drop 5 r) ≡ lab
-
-    keyword-label : Is (keyword-of r)
-    keyword-label =
-        cond-both (sameBytes r (codes "EndComments")) _ _ Is
-        (λ _ e. absurd (not-end e))
-        (λ _. cond-both (sameBytes r (codes "Trailer")) _ _ Is
-        (λ _ e. absurd (not-trailer e))
-        (λ _. cond-both (sameBytes (take 6 r) (codes "Pages:")) _ _ (λ o. Is (else-pages o (else-box (strip (codes "BoundingBox:") r) (else-page (strip (codes "Page:") r)))))
-        (λ _ e. absurd (let z : _≡_ {A = ℕ} 0 1 = cc in omega arith))
-        (λ _. cond-both (sameBytes (take 12 r) (codes "BoundingBox:")) _ _ (λ o. Is (else-box o (else-page (strip (codes "Page:") r))))
-        (λ _ e. absurd (let z : _≡_ {A = ℕ} 0 1 = cc in omega arith))
-        (λ _. cond-both (sameBytes (take 5 r) (codes "Page:")) _ _ (λ o. Is (else-page o))
-        (λ _ e. paged-label (label-of (drop 5 r)) (ordinal-of (drop 5 r)) e)
-        (λ _ e. absurd (not-other e))))))
-
-  marked-label : (t : List ℕ) (b : Bool) → keyword-or (cond b (Some (drop 2 t)) None) ≡ page lab (Some n) → label-of (drop 5 (drop 2 t)) ≡ lab
-  marked-label t true e = keyword-label (drop 2 t) e
-  marked-label t false e = absurd (not-other e)
-
-  pub kind-label : (t : List ℕ) → kind t ≡ page lab (Some n) → label-of (drop 7 t) ≡ lab
-  kind-label t e = ap label-of (sym (drop-drop 5 2 t)) ∙ marked-label t (eqb (getD t 0 0) 37 && eqb (getD t 1 0) 37) e
+-- a Page line's label, behind the keyword
+kind-label : (lab : List ℕ) (n : ℕ) (t : List ℕ) → kind t ≡ page lab (Some n) → label-of (drop 7 t) ≡ lab
+kind-label lab n t e =
+    let r = subst (Reads t) e (kind-reads t) in
+    ap (λ x. label-of (drop 7 x)) (r .1) ∙ sym (paged-is lab (label-of (r .0)) (ordinal-of (r .0)) n (r .2) .0)
 
 -- a part of a front is that part of the whole
 part-front : (n p j : ℕ) (xs : List ℕ) → n ≤ length (take j xs) - p → take n (drop p (take j xs)) ≡ take n (drop p xs)

@@ -1,30 +1,29 @@
--- A file that has the parts of a document is accepted. Assumes nothing.
-use mathlib.Core.Path.{_≡_, refl, sym, ap, subst, _∙_}
-use mathlib.Core.Bool.{Bool, true, false, cond, not, _&&_}
+-- A file that has the parts of a document is accepted.
+use mathlib.Core.Path.{_≡_, refl, sym, ap, _∙_}
+use mathlib.Core.Bool.{true, false, _&&_}
 use mathlib.Core.List.{List, [], _∷_, _++_}
-use Prim.Native.Nat.{ℕ, _+_, _-_, _≤_, _<_}
+use Prim.Native.Nat.{ℕ, _+_, _-_}
 use native.Mathlib.Omega.{arith}
 use native.Mathlib.Nat.{add-zero}
 use lib.Dec.{eqb, ltb}
 use lib.ListN.{length, take, length-append}
-use Rattle.std.specs.shelf.Text.{sameBytes}
 use Rattle.std.proofs.shelf.Equals.{sameBytes-decides}
 use Rattle.std.proofs.shelf.Tests.{cond-true, cond-false, and-from, eq-eqb, lt-ltb, le-ltb, false≢true}
 use Rattle.std.proofs.shelf.Lists.{append-nil, append-assoc}
 use Rattle.std.specs.declared.option.Option.{Option}
 use Rattle.std.specs.declared.option.Option.the-variants.{Some, None}
 use Rattle.std.specs.declared.result.Result.{Result}
-use Rattle.std.specs.declared.result.Result.the-variants.{Ok, Err}
+use Rattle.std.specs.declared.result.Result.the-variants.{Ok}
 use Rattle.pages.specs.declared.faults.Fault.{Fault}
 use Rattle.pages.specs.declared.maps.Size.{Size}
 use Rattle.pages.specs.Pieces.{Piece, fresh, done, flat, AllCalm}
 use Rattle.pages.specs.Inks.{Context, plain, lines, line, lines-of, text-of, Ink}
 use Rattle.dsc.specs.declared.scanner.Part.{Part}
-use Rattle.dsc.specs.declared.scanner.Part.the-variants.{Head, Preamble, Leaves}
+use Rattle.dsc.specs.declared.scanner.Part.the-variants.{Preamble, Leaves}
 use Rattle.dsc.specs.declared.scanner.Scanner.{Scanner}
 use Rattle.dsc.specs.Bounds.{longest, mark}
 use Rattle.dsc.specs.Comments.{Kind, end-comments, trailer, pages, box, page, other, kind}
-use Rattle.dsc.specs.Scans.{Read, follow, run, start, scanned, Step, goes, in-head, in-body, by-part, step, pair, kind-of}
+use Rattle.dsc.specs.Scans.{Read, follow, run, start, scanned, goes, in-head, in-body, step, kind-of}
 use Rattle.dsc.specs.Documents.{Line, Heads, AllHead, pages-or, size-or, first-pages, first-size, Leaf, bytes-of, index-of, Numbered, Ends, Document}
 use Rattle.dsc.proofs.Calm.{calm, kind-calm}
 use Rattle.dsc.proofs.Wholes.{behind, flat-closed}

@@ -1,16 +1,15 @@
--- The steps of loops over bytes. Assumes nothing.
+-- The steps of loops over bytes.
 use mathlib.Core.Path.{_≡_, refl, sym, ap, _∙_}
-use mathlib.Core.Bool.{Bool, true, false, cond, not, _&&_}
+use mathlib.Core.Bool.{true, false, not}
 use mathlib.Core.List.{List, [], _∷_}
 use Prim.Native.Nat.{ℕ, _+_, _-_, _*_, _≤_, _<_}
 use native.Mathlib.Omega.{arith}
 use native.Mathlib.Numerals.{one-add}
-use lib.Dec.{eqb, leb}
-use lib.ListN.{length, getD, take, drop, length-drop}
+use lib.Dec.{eqb}
+use lib.ListN.{length, getD, take, drop}
 use Rattle.std.proofs.shelf.Tests.{eq-eqb, ne-eqb, lt-ltb, le-leb, lt-leb, not-from-true, not-from-false, cond-true, cond-false, and-from, and-left, and-right}
 use Rattle.std.proofs.shelf.Sums.{leading-drop-yes, leading-drop-no, leading-drop-all, leading-le-length}
-use Rattle.std.proofs.shelf.Lists.{at-drop-more, at-drop-all, take-all, getD-past}
-use Rattle.std.specs.declared.option.Option.{Option}
+use Rattle.std.proofs.shelf.Lists.{at-drop-more, at-drop-all, take-all}
 use Rattle.std.specs.declared.option.Option.the-variants.{Some, None}
 use Rattle.dsc.specs.Lines.{until}
 use Rattle.dsc.specs.Values.{blanks, trim, digit, digits, number-of}
@@ -24,15 +23,6 @@ module _ (xs : List ℕ) (i : ℕ) where
 
   pub until-all : (c : ℕ) → length xs ≤ i → until c (drop i xs) ≡ 0
   until-all c l = leading-drop-all (λ b. not (eqb b c)) xs i l
-
-  pub blanks-here : i < length xs → (getD xs i 0 ≡ 32 → ⊥) → blanks (drop i xs) ≡ 0
-  blanks-here l e = leading-drop-no (λ b. eqb b 32) xs i 0 l (ne-eqb _ _ e)
-
-  pub blanks-more : i < length xs → getD xs i 0 ≡ 32 → blanks (drop i xs) ≡ 1 + blanks (drop (i + 1) xs)
-  blanks-more l e = leading-drop-yes (λ b. eqb b 32) xs i 0 l (eq-eqb _ _ e)
-
-  pub blanks-all : length xs ≤ i → blanks (drop i xs) ≡ 0
-  blanks-all l = leading-drop-all (λ b. eqb b 32) xs i l
 
   pub digits-more : (a : ℕ) → i < length xs → 48 ≤ getD xs i 0 → getD xs i 0 ≤ 57 → digits a (drop i xs) ≡ digits (a * 10 + (getD xs i 0 - 48)) (drop (i + 1) xs)
   digits-more a l lo hi =
@@ -54,9 +44,6 @@ module _ (xs : List ℕ) (i : ℕ) where
 
 pub until-le : (c : ℕ) (xs : List ℕ) → until c xs ≤ length xs
 until-le c xs = leading-le-length (λ b. not (eqb b c)) xs
-
-pub blanks-le : (xs : List ℕ) → blanks xs ≤ length xs
-blanks-le xs = leading-le-length (λ b. eqb b 32) xs
 
 pub number-digits : (w : List ℕ) → 0 < length w → length w ≤ 5 → number-of w ≡ digits 0 w
 number-digits w lo hi = cond-true _ _ _ (and-from _ _ (lt-ltb _ _ lo) (le-leb _ _ hi))

@@ -1,6 +1,6 @@
--- One line of a reading. Assumes nothing.
-use mathlib.Core.Path.{_≡_, refl, sym, ap, _∙_}
-use mathlib.Core.List.{List, [], _∷_, _++_}
+-- One line of a reading.
+use mathlib.Core.Path.{_≡_, sym, ap, _∙_}
+use mathlib.Core.List.{List}
 use Prim.Native.Nat.{ℕ, suc, _+_, _-_, _≤_, _<_}
 use native.Mathlib.Omega.{arith}
 use lib.ListN.{length, take, drop, length-drop}
@@ -10,10 +10,9 @@ use Rattle.std.proofs.shelf.Tests.{cond-false}
 use Rattle.dsc.specs.declared.reading.Reading.{Reading}
 use Rattle.dsc.specs.Readings.{rest, left}
 use Rattle.std.specs.declared.result.Result.{Result}
-use Rattle.std.specs.declared.result.Result.the-variants.{Ok, Err}
+use Rattle.std.specs.declared.result.Result.the-variants.{Err}
 use Rattle.pages.specs.declared.faults.Fault.{Fault}
 use Rattle.dsc.specs.declared.scanner.Scanner.{Scanner}
-use Rattle.dsc.specs.declared.scanner.Turn.{Turn}
 use Rattle.pages.specs.Inks.{text-of, lines-of}
 use Rattle.dsc.specs.Lines.{line-len}
 use Rattle.dsc.specs.Comments.{Kind, kind}

@@ -1,10 +1,10 @@
--- Lines that have their line feed. Assumes nothing.
+-- Lines that have their line feed.
 use mathlib.Core.Path.{_≡_, refl, sym, ap, _∙_}
 use mathlib.Core.List.{List, [], _∷_, _++_}
 use Prim.Native.Nat.{ℕ}
 use Rattle.std.proofs.shelf.Lists.{append-nil}
-use Rattle.pages.specs.Pieces.{Piece, fresh, after, done, flat, pieces, Inked}
-use Rattle.pages.specs.Inks.{Context, plain, lines, line, lines-of, Ink}
+use Rattle.pages.specs.Pieces.{Piece, fresh, after, done, flat, pieces}
+use Rattle.pages.specs.Inks.{Context, plain, lines, line, lines-of}
 use Rattle.pages.proofs.Cuts.{splits, flat-done, pieces-append}
 
 pub is-plain : (c : Context) → c ≡ plain

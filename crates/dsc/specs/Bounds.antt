@@ -1,4 +1,4 @@
--- The numbers of the rules, and the first bytes of a file. Assumes nothing.
+-- The numbers of the rules, and the first bytes of a file.
 use mathlib.Core.List.{List}
 use Prim.Native.Nat.{ℕ}
 use lib.Chars.{codes}

@@ -1,4 +1,4 @@
--- An accepted DSC file, in its parts. Assumes nothing.
+-- An accepted DSC file, in its parts.
 use mathlib.Core.Path.{_≡_}
 use mathlib.Core.List.{List, [], _∷_, _++_}
 use Prim.Native.Nat.{ℕ, _+_, _≤_}

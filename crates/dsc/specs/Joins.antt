@@ -1,4 +1,4 @@
--- A reading that goes on from where its first lines left it. Assumes nothing.
+-- A reading that goes on from where its first lines left it.
 use mathlib.Core.Path.{_≡_}
 use mathlib.Core.List.{List, [], _∷_, _++_}
 use Prim.Native.Nat.{ℕ, _+_}

@@ -10,3 +10,4 @@ pub mod Documents
 pub mod Loads
 pub mod Joins
 pub mod Printed
+pub mod Grammar

@@ -1,4 +1,4 @@
--- The first line of some bytes. Assumes nothing.
+-- The first line of some bytes.
 use mathlib.Core.Bool.{not}
 use mathlib.Core.List.{List}
 use Prim.Native.Nat.{ℕ, _+_, min}

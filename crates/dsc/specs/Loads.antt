@@ -1,4 +1,4 @@
--- What load does to a reader, and which label a leaf has. Assumes nothing.
+-- What load does to a reader, and which label a leaf has.
 use mathlib.Core.Path.{_≡_}
 use mathlib.Core.Logic.{_⊎_}
 use mathlib.Core.List.{List}
@@ -11,7 +11,8 @@ use Rattle.std.specs.declared.result.Result.the-variants.{Ok, Err}
 use Rattle.pages.specs.declared.faults.Fault.{Fault}
 use Rattle.pages.specs.declared.faults.Refusal.the-variants.{NoSuch}
 use Rattle.pages.specs.Inks.{text-of}
-use Rattle.pages.specs.Meaning.{fault}
+use Rattle.pages.specs.Limits.{maxInk}
+use Rattle.pages.specs.Meaning.{Meaning, fault, lengthAt, endAt, written, pourAt, poured}
 use Rattle.dsc.specs.declared.reader.Dsc.{Dsc}
 use Rattle.dsc.specs.Values.{blanks}
 use Rattle.dsc.specs.Comments.{kind, page}
@@ -44,7 +45,14 @@ abbrev pub Labels : Dsc → ℕ → Result (RefT (List ℕ)) Fault → Type 0
 Labels d leaf (Ok l) = (1 ≤ leaf) × (leaf ≤ d .leaves) × (kind (text-of (page-line (d .file .now) (d .index .now) leaf)) ≡ page (l .now) (Some leaf)) × (l .now ≡ take (length (l .now)) (drop (label-offset (d .file .now) (d .index .now) leaf) (d .file .now)))
 Labels d leaf (Err f) = ((leaf ≡ 0) ⊎ (d .leaves < leaf)) × (f ≡ fault NoSuch 1 leaf)
 
--- a leaf's ink, as a part of the file
+-- a leaf's ink, as a part of the file: its length is the answer to length, and writing it is what pour does
+pub record InkOf (m : Meaning) (leaf : ℕ) (ink : List ℕ) : Type 0 where
+  pub is : ink ≡ m .ink leaf
+  pub small : length ink ≤ maxInk
+  pub long : lengthAt m leaf ≡ Ok (length ink)
+  pub end : (n at : ℕ) → endAt ink n at ≡ pourAt m leaf n at
+  pub bytes : (b : List ℕ) (at : ℕ) → written ink b at ≡ poured m leaf b at
+
 abbrev pub Inks : Dsc → ℕ → Result (RefT (List ℕ)) Fault → Type 0
-Inks d leaf (Ok ink) = (leaf ≤ meant (d .file .now) .leaves) × (ink .now ≡ meaning-of (d .file .now) .ink leaf)
+Inks d leaf (Ok ink) = InkOf (meaning-of (d .file .now)) leaf (ink .now)
 Inks d leaf (Err f) = (meant (d .file .now) .leaves < leaf) × (f ≡ fault NoSuch 1 leaf)

@@ -1,4 +1,4 @@
--- A printed job, read back. Assumes nothing.
+-- A printed job, read back.
 use mathlib.Core.Path.{_≡_}
 use mathlib.Core.List.{List, [], _∷_, _++_}
 use Prim.Native.Nat.{ℕ, _+_, _≤_}

@@ -1,4 +1,4 @@
--- What a DSC reader holds and means. Assumes nothing.
+-- What a DSC reader holds and means.
 use mathlib.Core.Path.{_≡_}
 use mathlib.Core.Bool.{cond}
 use mathlib.Core.List.{List, [], _∷_}
@@ -50,16 +50,18 @@ pub record Unloaded (m : Meaning) : Type 0 where
 abbrev pub Held : List ℕ → List ℕ → Type 0
 Held file index = take (length (meant file .index)) index ≡ meant file .index
 
--- load's reading, against an index
-abbrev pub Refuses : List ℕ → Fault → Result Read Fault → Type 0
-Refuses index f (Err g) = f ≡ g
-Refuses index f (Ok o) = (f ≡ fault WrongIndex 1 0) × (take (length (o .index)) index ≡ o .index → ⊥)
-
-abbrev pub Verified : List ℕ → List ℕ → Result Scanner Fault → Type 0
-Verified file index (Ok s) = (scanned file ≡ Ok (meant file)) × (s .begun ≡ meant file .leaves) × (s .size ≡ meant file .size) × Held file index
-Verified file index (Err f) = Refuses index f (scanned file)
-
 -- load answers as scan does, if the index begins with the numbers that scan would write
 abbrev pub load-answer : Result Read Fault → List ℕ → Result ℕ Fault
 load-answer (Err f) index = Err f
 load-answer (Ok o) index = cond (sameBytes (take (length (o .index)) index) (o .index)) (Ok (o .leaves)) (Err (fault WrongIndex 1 0))
+
+-- load's reading, against an index
+pub record Checked (file index : List ℕ) (s : Scanner) : Type 0 where
+  pub answer : load-answer (scanned file) index ≡ Ok (s .begun)
+  pub counted : s .begun ≡ meant file .leaves
+  pub sized : s .size ≡ meant file .size
+  pub held : Held file index
+
+abbrev pub Verified : List ℕ → List ℕ → Result Scanner Fault → Type 0
+Verified file index (Ok s) = Checked file index s
+Verified file index (Err f) = load-answer (scanned file) index ≡ Err f

@@ -1,6 +1,6 @@
--- Reading a DSC file, line by line. Assumes nothing.
+-- Reading a DSC file, line by line.
 use mathlib.Core.Path.{_≡_}
-use mathlib.Core.Bool.{Bool, cond, _&&_}
+use mathlib.Core.Bool.{cond, _&&_}
 use mathlib.Core.List.{List, [], _∷_, _++_}
 use Prim.Native.Nat.{ℕ, _+_, _-_, _≤_}
 use lib.Dec.{eqb, ltb}
@@ -18,7 +18,6 @@ use Rattle.pages.specs.Meaning.{fault}
 use Rattle.dsc.specs.declared.scanner.Part.{Part}
 use Rattle.dsc.specs.declared.scanner.Part.the-variants.{Head, Preamble, Leaves}
 use Rattle.dsc.specs.declared.scanner.Scanner.{Scanner}
-use Rattle.dsc.specs.declared.scanner.Span.{Span}
 use Rattle.dsc.specs.declared.scanner.Turn.{Turn}
 use Rattle.dsc.specs.declared.scanner.Turn.the-variants.{On, Ink, End}
 use Rattle.dsc.specs.Bounds.{longest, mark}

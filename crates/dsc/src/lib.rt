@@ -15,6 +15,7 @@ mod source;
 mod values;
 
 pub use laws::accepts_documents;
+pub use laws::comments_are_written;
 pub use laws::jobs_read_back;
 pub use laws::readings_join;
 pub use reader::Dsc;

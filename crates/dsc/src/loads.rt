@@ -1,7 +1,7 @@
 //! A reader is filled in place, and hands out labels.
 ghost use mathlib.Core.Path.{_≡_};
-ghost use mathlib.Core.List.{List, [], _∷_};
-ghost use Prim.Native.Nat.{ℕ, _≤_};
+ghost use mathlib.Core.List.{[], _∷_};
+ghost use Prim.Native.Nat.{_≤_};
 ghost use lib.ListN.{length, take, drop};
 ghost use Rattle.std.specs.Orderings.{Decides};
 ghost use Rattle.dsc.specs.Bounds.{most-numbers};

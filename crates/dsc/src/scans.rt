@@ -7,7 +7,7 @@ ghost use Rattle.std.specs.declared.result.Result.the-variants.{Ok};
 ghost use Rattle.pages.specs.Inks.{lines-of};
 ghost use Rattle.dsc.specs.Bounds.{longest};
 ghost use Rattle.dsc.specs.Scans.{scanned, meant, run, start};
-ghost use Rattle.dsc.specs.ScanAnswers.{Surveyed, filled, answered, indexed};
+ghost use Rattle.dsc.specs.ScanAnswers.{Surveyed, answered, indexed};
 use crate::reading::Reading;
 use crate::readings::opens;
 use pages::faults::Fault;
@@ -34,8 +34,8 @@ fn fill(file: &[u8], index: &mut [u32]) -> u32
     requires { ⌜ scanned (now file) ≡ run start 0 [] (lines-of (now file)) ⌝ }
     requires { ⌜ scanned (now file) ≡ Ok (meant (now file)) ⌝ }
     requires { ⌜ length (meant (now file) .index) ≤ length (now index) ⌝ }
-    ensures leaves { λ r. ⌜ r ≡ meant (now (file .entry)) .leaves ⌝ }
-    ensures index { λ r. ⌜ now (index .exit) ≡ filled (meant (now (file .entry))) (now (index .entry)) ⌝ }
+    ensures answer { λ r. ⌜ answered (scanned (now (file .entry))) (length (now (index .entry))) ≡ Ok r ⌝ }
+    ensures after { λ r. ⌜ now (index .exit) ≡ indexed (scanned (now (file .entry))) (now (index .entry)) ⌝ }
 {
     let mut reading = Reading::new(file);
     let mut k: usize = 0;

@@ -1,6 +1,5 @@
 //! The values of a comment: words with blanks between, and numbers of one to five digits.
 ghost use mathlib.Core.Path.{_≡_};
-ghost use lib.ListN.{length};
 ghost use Rattle.dsc.specs.Values.{trim, word-of, past-word, number-of};
 use crate::lines::before;
 

@@ -1,11 +1,9 @@
-use mathlib.Core.Path.{_≡_, sym, ap, _∙_}
+use mathlib.Core.Path.{sym, ap, _∙_}
 use mathlib.Core.Bool.{true, false}
 use lib.Chars.{codes}
-use Rattle.std.specs.Options.{mapped}
-use Rattle.std.specs.shelf.Text.{sameBytes}
 use denote.Ref.{now}
 use Rattle.dsc.specs.Comments.{pages, box}
-use Rattle.dsc.proofs.Keywords.{same-is, at-end, at-trailer, at-pages, at-box, at-page, at-other}
+use Rattle.dsc.proofs.Keywords.{same-is, at-end, at-pages, at-box, at-page, at-other}
 use Rattle.dsc.proofs.comments.keyword.Needs as need
 
 pub returns-then-eq : need.returns-then-eq

@@ -3,7 +3,7 @@ use native.Mathlib.Omega.{arith}
 use lib.ListN.{getD}
 use Rattle.std.proofs.shelf.Tests.{cond-true, eq-eqb, and-from}
 use Rattle.std.proofs.shelf.Lists.{take-rest}
-use Rattle.std.specs.declared.option.Option.the-variants.{Some, None}
+use Rattle.std.specs.declared.option.Option.the-variants.{Some}
 use Rattle.dsc.proofs.comments.marked.Needs as need
 
 pub returns-in-37 : need.returns-in-37

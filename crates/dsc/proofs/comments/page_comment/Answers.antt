@@ -1,4 +1,3 @@
-use mathlib.Core.Path.{_≡_}
 use native.Mathlib.Omega.{arith}
 use Rattle.dsc.proofs.Keywords.{label-len-le}
 use Rattle.dsc.proofs.comments.page_comment.Needs as need

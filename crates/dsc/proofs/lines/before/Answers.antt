@@ -1,5 +1,4 @@
 use native.Mathlib.Omega.{arith}
-use borrow.Author.Needs.{needs}
 use Rattle.dsc.proofs.Spans.{until-here, until-more, until-all}
 use Rattle.dsc.proofs.lines.before.Needs as need
 

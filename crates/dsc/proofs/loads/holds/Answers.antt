@@ -1,4 +1,4 @@
-use mathlib.Core.Path.{_≡_, refl, sym}
+use mathlib.Core.Path.{refl}
 use native.Mathlib.Omega.{arith}
 use Rattle.dsc.proofs.Pairs.{two-none, two-other, two-last}
 use Rattle.dsc.proofs.loads.holds.Needs as need

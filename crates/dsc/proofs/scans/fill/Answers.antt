@@ -1,11 +1,14 @@
-use mathlib.Core.Path.{_≡_, refl, sym, ap, _∙_}
-use mathlib.Core.List.{List, [], _∷_, _++_}
+use mathlib.Core.Path.{_≡_, sym, ap, _∙_}
+use mathlib.Core.List.{[], _∷_, _++_}
 use Prim.Native.Nat.{_+_, _≤_}
 use native.Mathlib.Omega.{arith}
-use lib.ListN.{length, length-append, length-set, set}
+use lib.ListN.{length, drop, length-append, length-set, set}
+use Rattle.std.proofs.shelf.Tests.{cond-true, le-leb}
+use Rattle.std.specs.declared.result.Result.{Result}
 use Rattle.std.specs.declared.result.Result.the-variants.{Ok}
-use Rattle.dsc.specs.Scans.{meant}
-use Rattle.dsc.specs.Scans.{scanned}
+use Rattle.pages.specs.declared.faults.Fault.{Fault}
+use Rattle.dsc.specs.ScanAnswers.{answered, indexed}
+use Rattle.dsc.specs.Scans.{Read, read, meant, meant-by, scanned}
 use Rattle.dsc.specs.Readings.{rest, numbers}
 use Rattle.dsc.proofs.Pairs.{two-set}
 use Rattle.dsc.proofs.Grows.{rest-grows}
@@ -37,3 +40,16 @@ loop-reading-again-in-Some c =
       ap (λ l. set (set l (c .loop-reading .k) (ink .offset)) (c .loop-reading .k + 1) (ink .length)) (inv .3) ∙ two-set (c .args .index .now) (inv .0) (c .loop-reading .k) (ink .offset) (ink .length) (inv .2) (room d),
       omega (arith, c .in-Ok .ensures tt .1, inv .4),
     )
+
+pub returns : need.returns
+returns c =
+    let w = c .loop-reading .reading in
+    let inv = c .loop-reading .inv in
+    let xs = inv .0 in
+    let old = c .args .index .now in
+    let is : scanned (c .args .file .now) ≡ Ok (read (w .scanner) xs) = sym (inv .1) ∙ cond-true _ _ _ (c .loop-reading-test .left) in
+    let fits : length xs ≤ length old = omega (arith, c .pre .3, ap (λ (r : Result Read Fault). length (meant-by r .index)) is) in
+    record {
+      answer = ap (λ (r : Result Read Fault). answered r (length old)) is ∙ cond-true _ _ _ (le-leb _ _ fits);
+      after = inv .3 ∙ ap (λ k. xs ++ drop k old) (sym (inv .2)) ∙ sym (ap (λ (r : Result Read Fault). indexed r old) is ∙ cond-true _ _ _ (le-leb _ _ fits));
+    }

@@ -1,8 +1,8 @@
-use mathlib.Core.Path.{_≡_, refl, sym, ap, _∙_}
-use mathlib.Core.List.{List, [], _∷_, _++_}
+use mathlib.Core.Path.{sym, ap, _∙_}
+use mathlib.Core.List.{_++_}
 use native.Mathlib.Omega.{arith}
 use lib.ListN.{length, length-append}
-use Rattle.dsc.specs.Readings.{rest, numbers}
+use Rattle.dsc.specs.Readings.{numbers}
 use Rattle.dsc.proofs.scans.survey.Needs as need
 
 pub loop-reading-again-in-Some : need.loop-reading-again-in-Some

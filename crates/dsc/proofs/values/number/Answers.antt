@@ -1,14 +1,12 @@
-use mathlib.Core.Path.{_≡_, sym, _∙_}
-use Prim.Native.Nat.{ℕ, _+_, _*_, _-_, _<_, _≤_, _^_}
+use mathlib.Core.Path.{sym, _∙_}
+use Prim.Native.Nat.{_-_, _<_, _≤_}
 use native.Mathlib.Nat.{pow-succ'}
 use native.Mathlib.Numerals.{add-one}
 use native.Mathlib.Omega.{arith}
 use lib.ListN.{length, getD}
 use Rattle.std.proofs.shelf.Tests.{eqb-false}
-use Rattle.dsc.specs.Values.{digits, number-of}
 use Rattle.dsc.proofs.Spans.{number-digits, digits-more, digits-low, digits-high, digits-all}
 use Rattle.dsc.proofs.values.number.Needs as need
-use Rattle.dsc.proofs.values.number.Needs.{After-loop-b}
 
 pub returns-in-rest : need.returns-in-rest
 returns-in-rest c =

@@ -1,5 +1,5 @@
 use mathlib.Core.Path.{_≡_}
-use lib.ListN.{length, drop}
+use lib.ListN.{length}
 use Rattle.dsc.specs.Values.{trim}
 use Rattle.dsc.proofs.values.trimmed.Given as given
 

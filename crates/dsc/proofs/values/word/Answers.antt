@@ -1,6 +1,4 @@
-use mathlib.Core.Path.{_≡_}
 use native.Mathlib.Omega.{arith}
-use lib.ListN.{length}
 use Rattle.dsc.proofs.Spans.{until-le}
 use Rattle.dsc.proofs.values.word.Needs as need
 

@@ -1,9 +1,10 @@
-use mathlib.Core.Path.{_≡_, refl, sym, ap, _∙_}
+use mathlib.Core.Path.{_≡_, ap, _∙_}
 use Prim.Native.Nat.{_+_, _-_, _*_, _<_, _≤_}
 use native.Mathlib.Omega.{arith}
 use lib.ListN.{length, take, drop, getD}
 use Rattle.dsc.specs.Scans.{meant}
 use Rattle.dsc.proofs.Indexed.{held-long, held-ink, held-inside}
+use Rattle.dsc.proofs.InkParts.{ink-found}
 use Rattle.dsc.proofs.reader.Dsc.ink.Needs as need
 use Rattle.dsc.proofs.reader.Dsc.ink.Needs.{Else-leaf-self}
 
@@ -28,4 +29,4 @@ returns c =
     let index = c .args .self .now .index .now in
     let leaf = c .args .leaf in
     let n : getD index (2 * leaf) 0 + getD index (2 * leaf + 1) 0 - getD index (2 * leaf) 0 ≡ getD index (2 * leaf + 1) 0 = omega arith in
-    (there (need.at·returns c .Else-leaf-self), ap (λ m. take m (drop (getD index (2 * leaf) 0) file)) n ∙ held-ink file index leaf (c .args .self .now .held) (there (need.at·returns c .Else-leaf-self)))
+    ink-found file leaf _ (there (need.at·returns c .Else-leaf-self)) (ap (λ m. take m (drop (getD index (2 * leaf) 0) file)) n ∙ held-ink file index leaf (c .args .self .now .held) (there (need.at·returns c .Else-leaf-self)))

@@ -1,6 +1,6 @@
 use mathlib.Core.Path.{_≡_, refl, sym, ap, _∙_}
 use mathlib.Core.List.{List}
-use Prim.Native.Nat.{ℕ, _+_, _-_, _*_, _≤_, _<_}
+use Prim.Native.Nat.{ℕ, _+_, _-_, _*_, _<_}
 use native.Mathlib.Omega.{arith}
 use lib.ListN.{length, take, drop, getD}
 use denote.Ref.{RefT}
@@ -11,7 +11,7 @@ use Rattle.dsc.specs.declared.comments.Comment.the-variants.{EndComments, Trai
 use Rattle.pages.specs.Inks.{text-of}
 use Rattle.dsc.specs.Comments.{Kind, kind, page, view}
 use Rattle.dsc.specs.Readers.{offset-of, length-of}
-use Rattle.dsc.specs.Loads.{page-line, line-offset}
+use Rattle.dsc.specs.Loads.{page-line}
 use Rattle.dsc.proofs.Indexed.{held-long, held-line, Between}
 use Rattle.dsc.proofs.Placed.{placed}
 use Rattle.dsc.proofs.reader.Dsc.label.Needs as need

@@ -1,5 +1,6 @@
--- The block `DscSource` meets its trait. Assumes nothing.
--- It is the proof that Rattle makes of a block whose trait has no law, with the law added: Rattle makes none where there is a lifetime too.
+-- The block `DscSource` meets its trait.
+-- Rattle makes such a proof itself, but not where the trait has a law and the type a lifetime. This is the proof that it makes
+-- for the trait without the law, and the law's field, `lawful`, at the end.
 use Rattle.dsc.proofs.source.DscSource.depth.Met
 use Rattle.dsc.proofs.source.DscSource.depth.Symbol
 use Rattle.dsc.proofs.source.DscSource.laid.Met as Met'

@@ -1,0 +1,2 @@
+pub mod Imposing
+pub mod Laws
