@@ -14,9 +14,19 @@ use std::alloc::Global;
 pub enum Command {
     /// A text about the program itself.
     Help(&'static str),
-    Fold { plan: bool, signature: Signature },
-    Check { is_listing: bool, name: String },
-    Pages { is_listing: bool, name: String, orders: Vec<Order> },
+    Fold {
+        plan: bool,
+        signature: Signature,
+    },
+    Check {
+        is_listing: bool,
+        name: String,
+    },
+    Pages {
+        is_listing: bool,
+        name: String,
+        orders: Vec<Order>,
+    },
 }
 
 /// The signature that a scheme and a number of sheets name.
@@ -160,7 +170,10 @@ fn word_kind(text: &str) -> Word {
 }
 
 fn bad_value(heap: Global, option: &str, value: &str) -> Result<Command, Failure> {
-    Err(Failure::BadValue(String::from_str(heap, option)?, String::from_str(heap, value)?))
+    Err(Failure::BadValue(
+        String::from_str(heap, option)?,
+        String::from_str(heap, value)?,
+    ))
 }
 
 /// The words after `pages`.
@@ -194,7 +207,10 @@ fn pages_words(heap: Global, words: &[String]) -> Result<Command, Failure> {
                 orders.push(order)?;
                 skip = 2;
             }
-            Word::Unknown => return Err(Failure::UnknownOption("pages", String::from_str(heap, text)?)),
+            Word::Unknown => return Err(Failure::UnknownOption(
+                "pages",
+                String::from_str(heap, text)?,
+            )),
             Word::Name => {
                 if name.is_some() {
                     return Err(Failure::TooManyWords("pages", String::from_str(heap, text)?));
@@ -204,7 +220,11 @@ fn pages_words(heap: Global, words: &[String]) -> Result<Command, Failure> {
         }
     }
     match name {
-        Some(text) => Ok(Command::Pages { is_listing, name: String::from_str(heap, text)?, orders }),
+        Some(text) => Ok(Command::Pages {
+            is_listing,
+            name: String::from_str(heap, text)?,
+            orders,
+        }),
         None => Err(Failure::TooFewWords("pages", "a file, or - for standard input")),
     }
 }

@@ -47,8 +47,14 @@ pub impl fmt::Display for Failure as FailureDisplay {
                 f,
                 "{command}: {word:?} is one word too many (booklet {command} --help tells more)"
             ),
-            Failure::BadValue(option, value) => write!(f, "{option}: the value {value:?} cannot be read; wanted are --select A-B, --pad M, --turn Q, --reduce N/D, --signature SCHEME SHEETS with whole numbers"),
-            Failure::TooManyLayers => write!(f, "more than 8 layers; neighbouring --select words are one layer"),
+            Failure::BadValue(option, value) => write!(
+                f,
+                "{option}: the value {value:?} cannot be read; wanted are --select A-B, --pad M, --turn Q, --reduce N/D, --signature SCHEME SHEETS with whole numbers"
+            ),
+            Failure::TooManyLayers => write!(
+                f,
+                "more than 8 layers; neighbouring --select words are one layer"
+            ),
             Failure::NoScheme(word) => write!(
                 f,
                 "fold: no scheme {word:?}; schemes are 1 (W), 2 (NW), 3 (WNW), 4 (WW), 5 (NWNW)"

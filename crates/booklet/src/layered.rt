@@ -46,7 +46,11 @@ fn covered<S: Source + Drop>(source: S, orders: &[Order]) -> Result<Layer<S, Cho
 /// How many layers may still be put on. A type, since each layer makes another type of source.
 trait Room {
     /// Puts the layers of the orders on a source, and prints what it then shows.
-    fn print<S: Source + Drop>(rt: &LibcRuntime, source: S, orders: &[Order]) -> Result<(), Failure>;
+    fn print<S: Source + Drop>(
+        rt: &LibcRuntime,
+        source: S,
+        orders: &[Order],
+    ) -> Result<(), Failure>;
 }
 
 struct Full;
@@ -56,7 +60,11 @@ struct OneMore<R> {
 }
 
 impl Room for Full as FullRoom {
-    fn print<S: Source + Drop>(rt: &LibcRuntime, source: S, orders: &[Order]) -> Result<(), Failure> {
+    fn print<S: Source + Drop>(
+        rt: &LibcRuntime,
+        source: S,
+        orders: &[Order],
+    ) -> Result<(), Failure> {
         if !orders.is_empty() {
             return Err(Failure::TooManyLayers);
         }
@@ -66,7 +74,11 @@ impl Room for Full as FullRoom {
 }
 
 impl<R: Room> Room for OneMore<R> as OneMoreRoom {
-    fn print<S: Source + Drop>(rt: &LibcRuntime, source: S, orders: &[Order]) -> Result<(), Failure> {
+    fn print<S: Source + Drop>(
+        rt: &LibcRuntime,
+        source: S,
+        orders: &[Order],
+    ) -> Result<(), Failure> {
         if orders.is_empty() {
             print_source(rt, &source)?;
             return Ok(());
@@ -80,20 +92,35 @@ impl<R: Room> Room for OneMore<R> as OneMoreRoom {
 /// Eight layers.
 type Eight = OneMore<OneMore<OneMore<OneMore<OneMore<OneMore<OneMore<OneMore<Full>>>>>>>>;
 
-fn dsc_pages<'a>(rt: &LibcRuntime, file: &'a [u8], index: &'a [u32], orders: &[Order]) -> Result<(), Failure> {
+fn dsc_pages<'a>(
+    rt: &LibcRuntime,
+    file: &'a [u8],
+    index: &'a [u32],
+    orders: &[Order],
+) -> Result<(), Failure> {
     let mut reader = Dsc::empty();
     reader.load(file, index)?;
     Eight::print(rt, reader, orders)
 }
 
-fn listing_pages<'a>(rt: &LibcRuntime, file: &'a [u8], index: &'a [u32], orders: &[Order]) -> Result<(), Failure> {
+fn listing_pages<'a>(
+    rt: &LibcRuntime,
+    file: &'a [u8],
+    index: &'a [u32],
+    orders: &[Order],
+) -> Result<(), Failure> {
     let mut reader = Listing::empty();
     reader.load(file, index)?;
     Eight::print(rt, reader, orders)
 }
 
 /// Prints the pages of a file under the layers of the orders.
-pub fn pages(rt: &LibcRuntime, name: &str, is_listing: bool, orders: &[Order]) -> Result<(), Failure> {
+pub fn pages(
+    rt: &LibcRuntime,
+    name: &str,
+    is_listing: bool,
+    orders: &[Order],
+) -> Result<(), Failure> {
     let file = files::read(rt, name)?;
     let mut index = vec![in rt.alloc(); 0u32; files::INDEX_NUMBERS]?;
     if is_listing {

@@ -27,7 +27,11 @@ fn run(rt: &LibcRuntime) -> Result<(), Failure> {
             }
         }
         Command::Check { is_listing, name } => check::check(rt, name.as_str(), is_listing)?,
-        Command::Pages { is_listing, name, orders } => layered::pages(rt, name.as_str(), is_listing, orders.as_slice())?,
+        Command::Pages {
+            is_listing,
+            name,
+            orders,
+        } => layered::pages(rt, name.as_str(), is_listing, orders.as_slice())?,
     }
     Ok(())
 }

@@ -8,7 +8,10 @@ fn print_placement(rt: &LibcRuntime, page: u32, slot: u32, placement: Placement)
     let map = placement.map;
     let (turn, num, den) = (map.turn, map.num, map.den);
     let (x, y) = (map.x, map.y);
-    println!(rt, "page {page} slot {slot} leaf {leaf} map {turn} {num} {den} {x} {y}")
+    println!(
+        rt,
+        "page {page} slot {slot} leaf {leaf} map {turn} {num} {den} {x} {y}"
+    )
 }
 
 fn print_page<S: Source>(rt: &LibcRuntime, source: &S, page: u32) -> io::Result<()> {

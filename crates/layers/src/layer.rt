@@ -185,6 +185,21 @@ impl<S: Source, R: Rule + Drop> Layer<S, R> {
         below
     }
 
+    // Whether the pages can be shown by a plan: no page is crowded, and no map leaves its bounds.
+    fn check(&self, plan: &Plan<R>) -> Result<(), Fault>
+        ensures { λ r. ⌜ Cases r
+            (λ _. Exact (R·Rule .shows (now (plan .entry) .rule) (S·Source .meaning (now (self .entry) .below))) (now (plan .entry) .extent .pages) (S·Source .meaning (now (self .entry) .below)))
+            (λ e. Barred (R·Rule .shows (now (plan .entry) .rule) (S·Source .meaning (now (self .entry) .below))) (now (plan .entry) .extent .pages) (S·Source .meaning (now (self .entry) .below)) e) ⌝ }
+    {
+        if let Some(page) = first_crowded(&self.below, &plan.rule, plan.extent.pages) {
+            return Err(Fault::new(Refusal::Crowded, self.depth(), page));
+        }
+        if let Some(page) = first_far(&self.below, &plan.rule, plan.extent.pages) {
+            return Err(Fault::new(Refusal::TooFar, self.depth(), page));
+        }
+        Ok(())
+    }
+
     // Shows the pages by another plan, unless a page would be crowded or a map would leave its bounds.
     fn lay(&mut self, plan: Plan<R>) -> Result<(), Fault>
         ensures { λ r. ⌜ Cases r
@@ -194,16 +209,15 @@ impl<S: Source, R: Rule + Drop> Layer<S, R> {
             (λ e. (now (self .exit) ≡ now (self .entry))
             × Barred (R·Rule .shows (plan .rule) (S·Source .meaning (now (self .entry) .below))) (plan .extent .pages) (S·Source .meaning (now (self .entry) .below)) e) ⌝ }
     {
-        let Plan { rule, extent } = plan;
-        if let Some(page) = first_crowded(&self.below, &rule, extent.pages) {
-            return Err(Fault::new(Refusal::Crowded, self.depth(), page));
+        match self.check(&plan) {
+            Ok(()) => {
+                let Plan { rule, extent } = plan;
+                self.rule = rule;
+                self.extent = extent;
+                Ok(())
+            }
+            Err(e) => Err(e),
         }
-        if let Some(page) = first_far(&self.below, &rule, extent.pages) {
-            return Err(Fault::new(Refusal::TooFar, self.depth(), page));
-        }
-        self.rule = rule;
-        self.extent = extent;
-        Ok(())
     }
 
     /// Gives the layer an order. A refused order alters nothing.

@@ -2,8 +2,8 @@
 
 ghost use Prim.Native.Nat.{ℕ, _≤_};
 ghost use Rattle.layers.specs.Layering.{Exact, Parts, maxParts};
-ghost use Rattle.layers.specs.declared.extent.Extent.{Extent as Reach};
-ghost use Rattle.layers.specs.declared.parts.Objection.{Objection as Complaint};
+ghost use Rattle.layers.specs.declared.extent.Extent.{Extent};
+ghost use Rattle.layers.specs.declared.parts.Objection.{Objection};
 ghost use Rattle.pages.specs.Meaning.{Meaning, sizeOf};
 ghost use Rattle.std.specs.Finite.{nth};
 ghost use Rattle.std.specs.Results.{Cases};
@@ -34,13 +34,13 @@ pub trait Rule: Sized {
     ghost shows: { Self → Meaning → ℕ → Parts };
 
     /// The rule and extent with which a layer starts.
-    ghost starts: { Meaning → Self → Reach → Type 0 };
+    ghost starts: { Meaning → Self → Extent → Type 0 };
 
     /// What the rule objects to an order, if anything.
-    ghost objects: { Self → Self·Order → Meaning → Option Complaint };
+    ghost objects: { Self → Self·Order → Meaning → Option Objection };
 
     /// The rule and extent to which an order leads, if the rule objects nothing.
-    ghost takes: { Self → Self·Order → Meaning → Self → Reach → Type 0 };
+    ghost takes: { Self → Self·Order → Meaning → Self → Extent → Type 0 };
 
     /// How a layer shows its pages before its first order.
     fn start<S: Source>(below: &S) -> Plan<Self>

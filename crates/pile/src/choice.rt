@@ -56,7 +56,10 @@ fn select<S: Source>(choice: &Choice, below: &S, order: Range) -> Result<Plan<Ch
     match rule.ordered(below, order) {
         Ok(plan) => {
             let Plan { rule, extent } = plan;
-            Ok(Plan { rule: Choice::Selecting(rule), extent })
+            Ok(Plan {
+                rule: Choice::Selecting(rule),
+                extent,
+            })
         }
         Err(objection) => Err(objection),
     }
@@ -71,7 +74,10 @@ fn pad<S: Source>(below: &S, order: u32) -> Result<Plan<Choice>, Objection>
     match rule.ordered(below, order) {
         Ok(plan) => {
             let Plan { rule, extent } = plan;
-            Ok(Plan { rule: Choice::Padding(rule), extent })
+            Ok(Plan {
+                rule: Choice::Padding(rule),
+                extent,
+            })
         }
         Err(objection) => Err(objection),
     }
@@ -86,7 +92,10 @@ fn turn<S: Source>(below: &S, order: u32) -> Result<Plan<Choice>, Objection>
     match rule.ordered(below, order) {
         Ok(plan) => {
             let Plan { rule, extent } = plan;
-            Ok(Plan { rule: Choice::Turning(rule), extent })
+            Ok(Plan {
+                rule: Choice::Turning(rule),
+                extent,
+            })
         }
         Err(objection) => Err(objection),
     }
@@ -101,7 +110,10 @@ fn reduce<S: Source>(below: &S, order: Ratio) -> Result<Plan<Choice>, Objection>
     match rule.ordered(below, order) {
         Ok(plan) => {
             let Plan { rule, extent } = plan;
-            Ok(Plan { rule: Choice::Reducing(rule), extent })
+            Ok(Plan {
+                rule: Choice::Reducing(rule),
+                extent,
+            })
         }
         Err(objection) => Err(objection),
     }
@@ -116,7 +128,10 @@ fn impose<S: Source>(below: &S, order: Scheme) -> Result<Plan<Choice>, Objection
     match rule.ordered(below, order) {
         Ok(plan) => {
             let Plan { rule, extent } = plan;
-            Ok(Plan { rule: Choice::Imposing(rule), extent })
+            Ok(Plan {
+                rule: Choice::Imposing(rule),
+                extent,
+            })
         }
         Err(objection) => Err(objection),
     }
@@ -135,7 +150,10 @@ pub impl Rule for Choice as ChoiceRule {
 
     fn start<S: Source>(below: &S) -> Plan<Choice> {
         let Plan { rule, extent } = RangesRule::start(below);
-        Plan { rule: Choice::Selecting(rule), extent }
+        Plan {
+            rule: Choice::Selecting(rule),
+            extent,
+        }
     }
 
     fn ordered<S: Source>(&self, below: &S, order: Order) -> Result<Plan<Choice>, Objection> {

@@ -34,7 +34,7 @@ use Rattle.fold.specs.declared.signature.Signature.{Signature}
 use Rattle.std.proofs.shelf.Tests.{le-leb}
 use Rattle.layers.specs.Layering.{Below, allBelow}
 use Rattle.layers.proofs.Showing.{in-range}
-use Rattle.signature.specs.Imposing.{cells, positionMap, positionAt, positions, sideOf, sheetOf, sheetsBefore, sidesOf, imposeShows}
+use Rattle.signature.specs.Imposing.{cells, positionMap, positionAt, positions, sideOf, sheetOf, sheetsBefore, sidesOf, imposeShows, spotAt, pagesBefore}
 use Rattle.signature.proofs.Grids.{before-fits}
 
 pub nth-counted : {X : Type 0} (f : ℕ → X) (a n i j : ℕ) → i < n → a + i ≡ j → Some (f j) ≡ nth (map f (counting a n)) i
@@ -106,16 +106,18 @@ cell-page u k at cell a b e =
 
 -- ---- what stands at an index
 
-module _ (u : Letters) (k : ℕ) (size : Size) (p x r c sd j t : ℕ) (side : Side) (cell : Cell) (q : Map) where
-  pub position-is : x < r * c → r ≡ rows-of u → c ≡ columns-of u → sd ≡ p - 1 → j ≡ k → t ≡ pageCount u k →
-      side ≡ sideOf p → Some cell ≡ cellAt u k (record { sheet = sd / 2 % j + 1; side = side; row = x / c + 1; column = x % c + 1 }) →
-      q ≡ positionMap size r (x / c + 1) (x % c + 1) (cell .mark) →
-      Some (record { page = sd / 2 / j * t + cell .page; map = q }) ≡ nth (positions u k size p) x
-  position-is l a b d e f g i o =
-      let l : x < cells u = subst (λ (n : ℕ). x < n) (ap (λ (n : ℕ). n * c) a ∙ ap (λ (n : ℕ). rows-of u * n) b) l in
-      let n = nth-counted (positionAt u k size p) 0 (cells u) x x l (omega arith) in
-      let w = got (has u k (record { sheet = sd / 2 % j + 1; side = side; row = x / c + 1; column = x % c + 1 })) cell (laid u k (sd / 2 % j + 1) side (x / c + 1) (x % c + 1)) i in
-      cc
+pub position-is : (u : Letters) (k : ℕ) (size : Size) (p x r c j n : ℕ) (at : Position) (cell : Cell) (q : Map) →
+    x < r * c → r ≡ rows-of u → c ≡ columns-of u → j ≡ k → at ≡ spotAt c j p x → n ≡ pagesBefore u k p → Some cell ≡ cellAt u k at →
+    q ≡ positionMap size r (at .row) (at .column) (cell .mark) →
+    Some (record { page = n + cell .page; map = q }) ≡ nth (positions u k size p) x
+position-is u k size p x r c j n at cell q l a b d e f g o =
+    let l : x < cells u = subst (λ (n : ℕ). x < n) (ap (λ (n : ℕ). n * c) a ∙ ap (λ (n : ℕ). rows-of u * n) b) l in
+    let h = nth-counted (positionAt u k size p) 0 (cells u) x x l (omega arith) in
+    let s : at ≡ spotAt (columns-of u) k p x = e ∙ ap (λ (n : ℕ). spotAt n j p x) b ∙ ap (λ (n : ℕ). spotAt (columns-of u) n p x) d in
+    let w = got (has u k at) cell (laid u k (at .sheet) (at .side) (at .row) (at .column)) g ∙ ap (λ (y : Position). laid u k (y .sheet) (y .side) (y .row) (y .column)) s in
+    let m : q ≡ positionMap size (rows-of u) (x / columns-of u + 1) (x % columns-of u + 1) (cell .mark) =
+    o ∙ ap (λ (n : ℕ). positionMap size n (at .row) (at .column) (cell .mark)) a ∙ ap (λ (y : Position). positionMap size (rows-of u) (y .row) (y .column) (cell .mark)) s in
+    cc
 
 -- ---- the sides that there are
 

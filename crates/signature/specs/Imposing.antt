@@ -14,6 +14,7 @@ use Rattle.fold.specs.Walk.{laid, from-1-to}
 use Rattle.fold.specs.Words.{Letters, columns-of, rows-of, scheme}
 use Rattle.fold.specs.declared.sheets.Mark.{Mark}
 use Rattle.fold.specs.declared.sheets.Mark.the-variants.{Upright, Turned}
+use Rattle.fold.specs.declared.sheets.Position.{Position}
 use Rattle.fold.specs.declared.sheets.Side.{Side}
 use Rattle.fold.specs.declared.sheets.Side.the-variants.{One, Two}
 use Rattle.fold.specs.declared.signature.Signature.{Signature}
@@ -55,6 +56,10 @@ sheetOf k p = sheetsBefore p % k + 1
 
 abbrev pub sideOf : ℕ → Side
 sideOf p = cond (eqb (p % 2) 1) One Two
+
+-- where the position at an index of side p is, of so many columns: by rows from the top, from the left
+abbrev pub spotAt : ℕ → ℕ → ℕ → ℕ → Position
+spotAt columns k p x = record { sheet = sheetOf k p; side = sideOf p; row = x / columns + 1; column = x % columns + 1 }
 
 -- the map of the position (i, j) for pages of a size on so many rows: a turned page is turned by a half, in its place
 abbrev pub positionMap : Size → ℕ → ℕ → ℕ → Mark → Map

@@ -3,7 +3,7 @@
 ghost use Prim.Native.Nat.{_*_, _≤_};
 ghost use Rattle.fold.specs.Signatures.{lettersOf};
 ghost use Rattle.pages.specs.Limits.{maxPages, maxSide};
-ghost use Rattle.signature.specs.Imposing.{Imposed, Unimposed, imposeObjects, imposeShows, positionMap, positions, sideOf, sidesOf};
+ghost use Rattle.signature.specs.Imposing.{Imposed, Unimposed, imposeObjects, imposeShows, pagesBefore, positionMap, positions, sideOf, sidesOf, spotAt};
 ghost use Rattle.std.specs.Finite.{nth};
 ghost use mathlib.Core.Path.{_≡_};
 use fold::Mark;
@@ -82,6 +82,29 @@ fn position_map(size: Size, rows: u32, row: u32, column: u32, mark: Mark) -> Map
     }
 }
 
+// Where the position at an index of a side is, of so many columns.
+fn spot(columns: u32, sheets: u32, side: u32, index: u32) -> Position
+    requires { ⌜ (1 ≤ columns) × (1 ≤ sheets) ⌝ }
+    requires { ⌜ (index ≤ maxPages) × (side ≤ maxPages) ⌝ }
+    ensures { λ r. ⌜ r ≡ spotAt columns sheets side index ⌝ }
+{
+    Position {
+        sheet: side.saturating_sub(1) / 2 % sheets + 1,
+        side: side_of(side),
+        row: index / columns + 1,
+        column: index % columns + 1,
+    }
+}
+
+// How many pages the signatures before that of a side take.
+fn pages_before(signature: Signature, side: u32) -> u32
+    requires { ⌜ side ≤ maxPages ⌝ }
+    ensures all { λ r. ⌜ r ≡ pagesBefore (lettersOf signature) (signature .sheets) side ⌝ }
+    ensures few { λ r. ⌜ r ≤ 2097152 ⌝ }
+{
+    side.saturating_sub(1) / 2 / signature.sheets() * signature.pages()
+}
+
 // The position at an index of a side.
 fn position(signature: Signature, size: Size, side: u32, index: u32) -> Option<Part>
     requires { ⌜ (size .width ≤ maxSide) × (size .height ≤ maxSide) ⌝ }
@@ -93,20 +116,11 @@ fn position(signature: Signature, size: Size, side: u32, index: u32) -> Option<P
     if rows * columns <= index {
         return None;
     }
-    let sheets = signature.sheets();
-    let sheet = side.saturating_sub(1) / 2;
-    let row = index / columns + 1;
-    let column = index % columns + 1;
-    let at = Position {
-        sheet: sheet % sheets + 1,
-        side: side_of(side),
-        row,
-        column,
-    };
+    let at = spot(columns, signature.sheets(), side, index);
     let cell = signature.cell(at)?;
     Some(Part {
-        page: sheet / sheets * signature.pages() + cell.page,
-        map: position_map(size, rows, row, column, cell.mark),
+        page: pages_before(signature, side) + cell.page,
+        map: position_map(size, rows, at.row, at.column, cell.mark),
     })
 }
 

@@ -1,9 +1,0 @@
-use mathlib.Core.Path.{refl}
-use Rattle.pages.specs.Meaning.{Meaning}
-use Rattle.layers.proofs.Exactly.{near-exact}
-use Rattle.layers.proofs.layer.Layer.lay.Needs as need
-
-pub returns : need.returns
-returns g c =
-    let m : Meaning = g .S·Source .meaning (c .args .self .now .below) in
-    (refl, refl, refl, near-exact (g .R·Rule .shows (c .args .plan .rule) m) (c .args .plan .extent .pages) m (c .in-rest .ensures tt) (c .in-rest-first-far .ensures tt))
