@@ -1,0 +1,2 @@
+pub mod Inking
+pub mod Joining
