@@ -106,14 +106,14 @@ module _ (f : Leaf → Leaf) (line : ℕ → List Leaf) (n size H : ℕ) (size_i
 
 stacked_fold : (l : Letter) (w : Letters) (g : Grid) (H : ℕ) → Stacked (l ∷ w) H g → Stacked w (H * 2) (fold l g)
 stacked_fold W w g H s = record {
-  height_is = s.height-is;
+  height_is = s.height_is;
   width_is = half_is (count_w w) g.width s.width_is;
   piles = λ i j i1 i2. line-length (over W) (g.pile i) (count_w w) g.width H s.width_is (λ c. s.piles i c i1 i2) j;
 }
 stacked_fold N w g H s = record {
-  height_is = half_is (count_n w) g.height s.height-is;
+  height_is = half_is (count_n w) g.height s.height_is;
   width_is = s.width_is;
-  piles = λ i j i1 i2 j1 j2. line-length (over N) (λ r. g.pile r j) (count_n w) g.height H s.height-is (λ c c1 c2. s.piles c j c1 c2 j1 j2) i i1 i2;
+  piles = λ i j i1 i2 j1 j2. line-length (over N) (λ r. g.pile r j) (count_n w) g.height H s.height_is (λ c c1 c2. s.piles c j c1 c2 j1 j2) i i1 i2;
 }
 
 -- the leaf x, turned over as often as the state says, lies where the state says
@@ -129,58 +129,58 @@ at_w : (w : Letters) (g : Grid) (p : CellState) (x : Leaf) → At (W ∷ w) g p 
 at_w w g p x a =
     let s = a.stacked in
     let piles = λ (c : ℕ). s.piles p.row c a.rows_in.low a.rows_in.high in
-    let same : g.width ≡ p.columns = s.width_is ∙ sym a.columns-in.size_is in
+    let same : g.width ≡ p.columns = s.width_is ∙ sym a.columns_in.size_is in
     cond_both (leb p.column (p.columns / 2)) _ _ (λ p'. At w (fold W g) p' x)
     (λ e. let le = leb-true _ _ e in record {
       stacked = stacked_fold W w g p.height s;
       rows_in = a.rows_in;
-      columns_in = along_turned (count_w w) p.columns p.column a.columns-in le;
-      depth_low = omega (arith, a.depth-high);
+      columns_in = along_turned (count_w w) p.columns p.column a.columns_in le;
+      depth_low = omega (arith, a.depth_high);
       depth_high = omega (arith, a.depth_low);
       leaf_is =
           subst (λ n. item (reverse (map (over W) (g.pile p.row (n / 2 + 1 - (p.columns / 2 + 1 - p.column)))) ++ g.pile p.row (n / 2 + (p.columns / 2 + 1 - p.column))) (p.height + 1 - p.depth) ≡ turned_over (p.turns + 1) p.tumbles x) (sym same)
-          (line_turned (over W) (g.pile p.row) (count_w w) p.columns p.height a.columns-in.size_is piles p.column p.depth a.columns-in le a.depth_low a.depth-high
-          ∙ over_w p.turns p.tumbles x _ a.leaf-is);
+          (line_turned (over W) (g.pile p.row) (count_w w) p.columns p.height a.columns_in.size_is piles p.column p.depth a.columns_in le a.depth_low a.depth_high
+          ∙ over_w p.turns p.tumbles x _ a.leaf_is);
     })
     (λ e. let gt = leb-false _ _ e in record {
       stacked = stacked_fold W w g p.height s;
       rows_in = a.rows_in;
-      columns_in = along_kept (count_w w) p.columns p.column a.columns-in gt;
+      columns_in = along_kept (count_w w) p.columns p.column a.columns_in gt;
       depth_low = omega (arith, a.depth_low);
-      depth_high = omega (arith, a.depth-high);
+      depth_high = omega (arith, a.depth_high);
       leaf_is =
           subst (λ n. item (reverse (map (over W) (g.pile p.row (n / 2 + 1 - (p.column - p.columns / 2)))) ++ g.pile p.row (n / 2 + (p.column - p.columns / 2))) (p.depth + p.height) ≡ turned_over p.turns p.tumbles x) (sym same)
-          (line_kept (over W) (g.pile p.row) (count_w w) p.columns p.height a.columns-in.size_is piles p.column p.depth a.columns-in gt a.depth_low
-          ∙ a.leaf-is);
+          (line_kept (over W) (g.pile p.row) (count_w w) p.columns p.height a.columns_in.size_is piles p.column p.depth a.columns_in gt a.depth_low
+          ∙ a.leaf_is);
     })
 
 at_n : (w : Letters) (g : Grid) (p : CellState) (x : Leaf) → At (N ∷ w) g p x → At w (fold N g) (step N p) x
 at_n w g p x a =
     let s = a.stacked in
-    let piles = λ (c : ℕ) (c1 : 1 ≤ c) (c2 : c ≤ 2 ^ suc (count_n w)). s.piles c p.column c1 c2 a.columns-in.low a.columns-in.high in
-    let same : g.height ≡ p.rows = s.height-is ∙ sym a.rows_in.size_is in
+    let piles = λ (c : ℕ) (c1 : 1 ≤ c) (c2 : c ≤ 2 ^ suc (count_n w)). s.piles c p.column c1 c2 a.columns_in.low a.columns_in.high in
+    let same : g.height ≡ p.rows = s.height_is ∙ sym a.rows_in.size_is in
     cond_both (leb p.row (p.rows / 2)) _ _ (λ p'. At w (fold N g) p' x)
     (λ e. let le = leb-true _ _ e in record {
       stacked = stacked_fold N w g p.height s;
       rows_in = along_turned (count_n w) p.rows p.row a.rows_in le;
-      columns_in = a.columns-in;
-      depth_low = omega (arith, a.depth-high);
+      columns_in = a.columns_in;
+      depth_low = omega (arith, a.depth_high);
       depth_high = omega (arith, a.depth_low);
       leaf_is =
           subst (λ n. item (reverse (map (over N) (g.pile (n / 2 + 1 - (p.rows / 2 + 1 - p.row)) p.column)) ++ g.pile (n / 2 + (p.rows / 2 + 1 - p.row)) p.column) (p.height + 1 - p.depth) ≡ turned_over (p.turns + 1) (p.tumbles + 1) x) (sym same)
-          (line_turned (over N) (λ r. g.pile r p.column) (count_n w) p.rows p.height a.rows_in.size_is piles p.row p.depth a.rows_in le a.depth_low a.depth-high
-          ∙ over_n p.turns p.tumbles x _ a.leaf-is);
+          (line_turned (over N) (λ r. g.pile r p.column) (count_n w) p.rows p.height a.rows_in.size_is piles p.row p.depth a.rows_in le a.depth_low a.depth_high
+          ∙ over_n p.turns p.tumbles x _ a.leaf_is);
     })
     (λ e. let gt = leb-false _ _ e in record {
       stacked = stacked_fold N w g p.height s;
       rows_in = along_kept (count_n w) p.rows p.row a.rows_in gt;
-      columns_in = a.columns-in;
+      columns_in = a.columns_in;
       depth_low = omega (arith, a.depth_low);
-      depth_high = omega (arith, a.depth-high);
+      depth_high = omega (arith, a.depth_high);
       leaf_is =
           subst (λ n. item (reverse (map (over N) (g.pile (n / 2 + 1 - (p.row - p.rows / 2)) p.column)) ++ g.pile (n / 2 + (p.row - p.rows / 2)) p.column) (p.depth + p.height) ≡ turned_over p.turns p.tumbles x) (sym same)
           (line_kept (over N) (λ r. g.pile r p.column) (count_n w) p.rows p.height a.rows_in.size_is piles p.row p.depth a.rows_in gt a.depth_low
-          ∙ a.leaf-is);
+          ∙ a.leaf_is);
     })
 
 -- ---- all folds
@@ -194,8 +194,8 @@ pub at_end : (w : Letters) (g : Grid) (p : CellState) (x : Leaf) → At w g p x 
 at_end w g p x h =
     let a = at_last w g p x h in
     let r : 1 ≡ (walk w p).row = omega (arith, a.rows_in.low, a.rows_in.high) in
-    let c : 1 ≡ (walk w p).column = omega (arith, a.columns-in.low, a.columns-in.high) in
-    (λ i. item ((folded w g).pile (r i) (c i)) (walk w p).depth) ∙ a.leaf-is
+    let c : 1 ≡ (walk w p).column = omega (arith, a.columns_in.low, a.columns_in.high) in
+    (λ i. item ((folded w g).pile (r i) (c i)) (walk w p).depth) ∙ a.leaf_is
 
 twice : (w : Letters) (H : ℕ) → H * 2 ^ suc (length w) ≡ H * 2 * 2 ^ length w
 twice w H = ap (λ n. H * n) (pow-suc 2 (length w) ∙ mul_comm (2 ^ length w) 2) ∙ sym (mul_assoc H 2 (2 ^ length w))
@@ -233,7 +233,7 @@ leaves_follow_the_walk w H g s i j a x i1 i2 j1 j2 a1 found =
           let b = at_begin w g H i j a s i1 i2 j1 j2 a1 (omega arith) x is in
           let z = at_last w g (begin w H i j a) x b in
           let low : (walk w (begin w H i j a)).depth - 1 < length (last w g) =
-          omega (arith, z.depth_low, z.depth-high, walk_height w (begin w H i j a), end-length w g H s) in
+          omega (arith, z.depth_low, z.depth_high, walk_height w (begin w H i j a), end-length w g H s) in
           slice_get-get_or (last w g) ((walk w (begin w H i j a)).depth - 1) blank low ∙ ap Some (at_end w g (begin w H i j a) x b)
       | inr past ↦
           let e = slice_get_past (g.pile i j) (a - 1) past in
@@ -293,16 +293,16 @@ pub record Reach (w : Letters) (H b : ℕ) : Type 0 where
 reach_w : (w : Letters) (H b : ℕ) → Reach w (H * 2) b → Reach (W ∷ w) H b
 reach_w w H b r =
     let half = half_is (count_w w) (2 ^ suc (count_w w)) refl in
-    let q = came_from (count_w w) H r.column r.depth r.column-low r.column-high r.depth_low r.depth-high in record {
+    let q = came_from (count_w w) H r.column r.depth r.column_low r.column_high r.depth_low r.depth_high in record {
       row = r.row;
       column = q.at;
       depth = q.deep;
       row_low = r.row_low;
-      row_high = r.row-high;
+      row_high = r.row_high;
       column_low = q.at_low;
       column_high = q.at_high;
-      depth_low = q.deep-low;
-      depth_high = q.deep-high;
+      depth_low = q.deep_low;
+      depth_high = q.deep_high;
       lands = λ t n. elim q.came [
         | inl k ↦ ap (λ p. (walk w p).depth)
             (cond-false _ _ _ (lt-leb q.at (2 ^ suc (count_w w) / 2) k.0)
@@ -318,16 +318,16 @@ reach_w w H b r =
 reach_n : (w : Letters) (H b : ℕ) → Reach w (H * 2) b → Reach (N ∷ w) H b
 reach_n w H b r =
     let half = half_is (count_n w) (2 ^ suc (count_n w)) refl in
-    let q = came_from (count_n w) H r.row r.depth r.row_low r.row-high r.depth_low r.depth-high in record {
+    let q = came_from (count_n w) H r.row r.depth r.row_low r.row_high r.depth_low r.depth_high in record {
       row = q.at;
       column = r.column;
       depth = q.deep;
       row_low = q.at_low;
       row_high = q.at_high;
-      column_low = r.column-low;
-      column_high = r.column-high;
-      depth_low = q.deep-low;
-      depth_high = q.deep-high;
+      column_low = r.column_low;
+      column_high = r.column_high;
+      depth_low = q.deep_low;
+      depth_high = q.deep_high;
       lands = λ t n. elim q.came [
         | inl k ↦ ap (λ p. (walk w p).depth)
             (cond-false _ _ _ (lt-leb q.at (2 ^ suc (count_n w) / 2) k.0)

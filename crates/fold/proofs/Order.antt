@@ -112,13 +112,13 @@ folds_in_order w k h = ap read same ∙ rising h k (2 ^ length w)
         let c = r.column in
         let i = r.row in
         let a = k + 1 - s in
-        let deep : a ≡ r.depth = omega (arith, r.depth-high) in
-        let sheet : k - (a - 1) ≡ s = omega (arith, r.depth_low, r.depth-high) in
-        let turn-back : columns_of w + 1 - (columns_of w + 1 - c) ≡ c = omega (arith, r.column-high) in
+        let deep : a ≡ r.depth = omega (arith, r.depth_high) in
+        let sheet : k - (a - 1) ≡ s = omega (arith, r.depth_low, r.depth_high) in
+        let turn-back : columns_of w + 1 - (columns_of w + 1 - c) ≡ c = omega (arith, r.column_high) in
         let p = walk w (start w k s i c) in
         let lands : p.depth ≡ b = ap (λ d. (walk w (begin w k i c d)).depth) deep ∙ r.lands 0 0 in
         let is : item ((stack w k f).pile i c) a ≡ leaf_of h p =
-        get_d_piled k _ (a - 1) (omega (arith, r.depth_low, r.depth-high))
+        get_d_piled k _ (a - 1) (omega (arith, r.depth_low, r.depth_high))
         ∙ (λ j. record {
           upper = f (sheet j) Two i c;
           lower = record {
@@ -128,8 +128,8 @@ folds_in_order w k h = ap read same ∙ rising h k (2 ^ length w)
         }) in
         ap (item (last w (stack w k f))) (sym lands)
         ∙ at_end w (stack w k f) (start w k s i c) (leaf_of h p)
-        (at_begin w (stack w k f) k i c a (stacked w k f) r.row_low r.row-high r.column-low r.column-high
-        (omega (arith, r.depth_low)) (omega (arith, r.depth-high)) (leaf_of h p) is)
+        (at_begin w (stack w k f) k i c a (stacked w k f) r.row_low r.row_high r.column_low r.column_high
+        (omega (arith, r.depth_low)) (omega (arith, r.depth_high)) (leaf_of h p) is)
         ∙ comes_out h p
         ∙ ap (risen h) lands
 

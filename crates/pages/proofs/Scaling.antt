@@ -148,6 +148,6 @@ pub made_is : (t u : Map) (v : ℤ × ℤ) → Parts t u v → Fit u → (x y : 
     y ≡ pos u.num *ℤ to_z w64 (of_z w64 v.1) +ℤ pos t.den *ℤ to_z w64 (of_z w64 u.y) →
     made t u (to_z w64 (of_z w64 x)) (to_z w64 (of_z w64 y)) ≡ followed t u
 made_is t u v p g x y ex ey =
-    let fx = coordinate u.num t.den v.0 u.x x p.num-small p.den-small p.near_x g.near_x ex ∙ ap (λ (w : ℤ × ℤ). pos u.num *ℤ w.0 +ℤ pos t.den *ℤ u.x) p.is in
-    let fy = coordinate u.num t.den v.1 u.y y p.num-small p.den-small p.near_y g.near_y ey ∙ ap (λ (w : ℤ × ℤ). pos u.num *ℤ w.1 +ℤ pos t.den *ℤ u.y) p.is in
+    let fx = coordinate u.num t.den v.0 u.x x p.num_small p.den_small p.near_x g.near_x ex ∙ ap (λ (w : ℤ × ℤ). pos u.num *ℤ w.0 +ℤ pos t.den *ℤ u.x) p.is in
+    let fy = coordinate u.num t.den v.1 u.y y p.num_small p.den_small p.near_y g.near_y ey ∙ ap (λ (w : ℤ × ℤ). pos u.num *ℤ w.1 +ℤ pos t.den *ℤ u.y) p.is in
     ap (λ (z : ℤ). made t u z (to_z w64 (of_z w64 y))) fx ∙ ap (made t u (followed t u).x) fy

@@ -1,6 +1,7 @@
 //! What every refusal of the product carries.
 
-ghost use Rattle.std.specs.Prelude.{◌≡◌, Some, Decides};
+ghost use Rattle.std.specs.Prelude.{◌≡◌, ◌==◌, Some, Decides};
+ghost use Rattle.std.specs.Ordering.{on};
 ghost use Rattle.pages.specs.Meaning.{fault};
 ghost use Rattle.pages.specs.Faults.{number, name, fault_text, Numbered};
 ghost use Rattle.std.specs.Cmp.Rules.{comparing};
@@ -129,11 +130,14 @@ impl Fault {
 
 /// Two kinds are one if their numbers are.
 impl PartialEq for Refusal {
-    ghost equals = { λ j k r. Decides r (j ≡ k) };
+    ghost eq = { on number ◌==◌ };
 
     ghost laws = { Keys.partial_equiv_from_equiv (Prim.search (comparing, rules)) };
 
-    fn eq(&self, other: &Refusal) -> bool {
+    fn eq(&self, other: &Refusal) -> bool
+        ensures computed { result ≡ (number self.now == number other.now) }
+        ensures decides { Decides result (self.now ≡ other.now) }
+    {
         self.number() == other.number()
     }
 }

@@ -42,7 +42,7 @@ pub record Lies (g sheet : ℕ) (side : Side) (i j : ℕ) (r : Record) : Type 0 
 
 lies_from : (g sheet : ℕ) (side : Side) (i j : ℕ) (r : Record) → Lies g sheet side i j r → lies g sheet side i j r ≡ true
 lies_from g sheet side i j r l =
-    and_from _ _ (eq-eqb _ _ l.of-signature) (and_from _ _ (eq-eqb _ _ l.of-sheet) (and_from _ _ (eq-eqb _ _ l.of-side) (and_from _ _ (eq-eqb _ _ l.of_row) (eq-eqb _ _ l.of-column))))
+    and_from _ _ (eq-eqb _ _ l.of_signature) (and_from _ _ (eq-eqb _ _ l.of_sheet) (and_from _ _ (eq-eqb _ _ l.of_side) (and_from _ _ (eq-eqb _ _ l.of_row) (eq-eqb _ _ l.of_column))))
 
 lies_to : (g sheet : ℕ) (side : Side) (i j : ℕ) (r : Record) → lies g sheet side i j r ≡ true → Lies g sheet side i j r
 lies_to g sheet side i j r h =
@@ -98,9 +98,9 @@ module _ (u : Letters) (k g sheet : ℕ) (side : Side) (i j : ℕ) (low : 1 ≤ 
   other : (p y : ℕ) → 1 ≤ p → (p ≡ s → ⊥) → here (record_at u k p y) ≡ false
   other p y h d = fails _ (λ t.
       let l = lies_to g sheet side i j (record_at u k p y) t in
-      let a : signatures_before k p ≡ g - 1 = omega (arith, l.of-signature) in
-      let c : side_of p ≡ side = same_side (side_of p) side l.of-side in
-      d (numbered k p h ∙ ap (λ n. sideAt k n (sheet_of k p) (side_of p)) a ∙ ap (λ n. sideAt k (g - 1) n (side_of p)) l.of-sheet ∙ ap (sideAt k (g - 1) sheet) c))
+      let a : signatures_before k p ≡ g - 1 = omega (arith, l.of_signature) in
+      let c : side_of p ≡ side = same_side (side_of p) side l.of_side in
+      d (numbered k p h ∙ ap (λ n. sideAt k n (sheet_of k p) (side_of p)) a ∙ ap (λ n. sideAt k (g - 1) n (side_of p)) l.of_sheet ∙ ap (sideAt k (g - 1) sheet) c))
 
   none_before : (n : ℕ) → n < s → first here (plan_to u k n) ≡ None
   none_before zero h = refl
@@ -112,12 +112,12 @@ module _ (u : Letters) (k g sheet : ℕ) (side : Side) (i j : ℕ) (low : 1 ≤ 
   row_is = omega (arith, div-mul-add (i - 1) (columns_of u) (j - 1) (omega arith), ins.row_is)
 
   column_is : x % columns_of u + 1 ≡ j
-  column_is = omega (arith, mod-mul-add (i - 1) (columns_of u) (j - 1) (omega arith), ins.column-is)
+  column_is = omega (arith, mod-mul-add (i - 1) (columns_of u) (j - 1) (omega arith), ins.column_is)
 
   own_lies : Lies g sheet side i j (record_at u k s x)
   own_lies = record {
-    of_signature = omega (arith, signature_of k (g - 1) sheet side ins.sheet-is.0 ins.sheet-is.1);
-    of_sheet = sheet_of_lem k (g - 1) sheet side ins.sheet-is.0 ins.sheet-is.1;
+    of_signature = omega (arith, signature_of k (g - 1) sheet side ins.sheet_is.0 ins.sheet_is.1);
+    of_sheet = sheet_of_lem k (g - 1) sheet side ins.sheet_is.0 ins.sheet_is.1;
     of_side = ap side_number (side_of_lem k (g - 1) sheet side);
     of_row = row_is;
     of_column = column_is;
@@ -127,15 +127,15 @@ module _ (u : Letters) (k g sheet : ℕ) (side : Side) (i j : ℕ) (low : 1 ≤ 
   only y h = fails _ (λ t.
       let l = lies_to g sheet side i j (record_at u k s y) t in
       let q : y / columns_of u ≡ i - 1 = omega (arith, l.of_row) in
-      omega (arith, l.of-column, div-add-mod' y (columns_of u), ap (λ z. z * columns_of u) q))
+      omega (arith, l.of_column, div-add-mod' y (columns_of u), ap (λ z. z * columns_of u) q))
 
   on_side : first here (records_of u k s) ≡ Some (record_at u k s x)
   on_side =
-      let below : x < 0 + cells u = omega (arith, mul-add-lt (i - 1) (columns_of u) (j - 1) (rows_of u) (omega (arith, ins.row_is)) (omega (arith, ins.column-is)), mul_comm (rows_of u) (columns_of u)) in
+      let below : x < 0 + cells u = omega (arith, mul-add-lt (i - 1) (columns_of u) (j - 1) (rows_of u) (omega (arith, ins.row_is)) (omega (arith, ins.column_is)), mul_comm (rows_of u) (columns_of u)) in
       first_some here (record_at u k s) 0 (cells u) x (omega arith) below (lies_from g sheet side i j (record_at u k s x) own_lies) only
 
   within : (n : ℕ) → s ≤ n → first here (plan_to u k n) ≡ Some (record_at u k s x)
-  within zero h = absurd (omega (arith, (side_below k g sheet side low ins.sheet-is.0 ins.sheet-is.1).0))
+  within zero h = absurd (omega (arith, (side_below k g sheet side low ins.sheet_is.0 ins.sheet_is.1).0))
   within (suc n) h =
       ⊎_elim
       (λ (e : s ≡ suc n).
@@ -146,8 +146,8 @@ module _ (u : Letters) (k g sheet : ℕ) (side : Side) (i j : ℕ) (low : 1 ≤ 
 
   own_shows : cell_of (Some (record_at u k s x)) ≡ named (λ n. (g - 1) * page_count u k + n) (laid u k) sheet side i j
   own_shows =
-      let a = signature_of k (g - 1) sheet side ins.sheet-is.0 ins.sheet-is.1 in
-      let b = sheet_of_lem k (g - 1) sheet side ins.sheet-is.0 ins.sheet-is.1 in
+      let a = signature_of k (g - 1) sheet side ins.sheet_is.0 ins.sheet_is.1 in
+      let b = sheet_of_lem k (g - 1) sheet side ins.sheet_is.0 ins.sheet_is.1 in
       let c = side_of_lem k (g - 1) sheet side in
       (λ t. record {
         page = a t * page_count u k + (laid u k (b t) (c t) (row_is t) (column_is t)).page;
@@ -161,7 +161,7 @@ module _ (u : Letters) (k g sheet : ℕ) (side : Side) (i j : ℕ) (low : 1 ≤ 
   pub filled_is : (n : ℕ) (plan : List Record) → Planned u k n plan → g * (2 * k) ≤ n
       → filled plan g sheet side i j ≡ named (λ n. (g - 1) * page_count u k + n) (laid u k) sheet side i j
   filled_is n plan e le =
-      let known : s ≤ n = omega (arith, (side_below k g sheet side low ins.sheet-is.0 ins.sheet-is.1).1) in
+      let known : s ≤ n = omega (arith, (side_below k g sheet side low ins.sheet_is.0 ins.sheet_is.1).1) in
       ap (λ z. cell_of (first here z)) (sym (take-append-drop (n * cells u) plan) ∙ ap (λ z. z ++ drop (n * cells u) plan) e)
       ∙ ap cell_of (first_front here (plan_to u k n) (drop (n * cells u) plan) _ (within n known))
       ∙ own_shows

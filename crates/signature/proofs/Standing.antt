@@ -129,19 +129,19 @@ module _ (u : Letters) (k : ℕ) (positive : 1 ≤ k) where
     column = across u on.side there.column
 
     sheet_low : 1 ≤ s
-    sheet_low = omega (arith, there.depth-high)
+    sheet_low = omega (arith, there.depth_high)
 
     sheet_high : s ≤ k
     sheet_high = omega (arith, there.depth_low)
 
     shown : (position u k z p there.row column).page ≡ q
     shown =
-        let depth : k + 1 - s ≡ there.depth = omega (arith, there.depth-high) in
+        let depth : k + 1 - s ≡ there.depth = omega (arith, there.depth_high) in
         let sum : g * t + n ≡ q = omega (arith, div-add-mod' (q - 1) t) in
         ap (λ (x : ℕ). x * t + (laid u k (sheet_of k p) (side_of p) there.row column).page) (signature_of k g s on.side sheet_low sheet_high)
         ∙ ap (λ (x : ℕ). g * t + (laid u k x (side_of p) there.row column).page) (sheet_of_lem k g s on.side sheet_low sheet_high)
         ∙ ap (λ (x : Side). g * t + (laid u k s x there.row column).page) (side_of_lem k g s on.side)
-        ∙ ap (λ (x : ℕ). g * t + (shows on.side (walk u (begin u k there.row x (k + 1 - s)))).page) (across_back u on.side there.column there.column-low there.column-high)
+        ∙ ap (λ (x : ℕ). g * t + (shows on.side (walk u (begin u k there.row x (k + 1 - s)))).page) (across_back u on.side there.column there.column_low there.column_high)
         ∙ ap (λ (x : ℕ). g * t + (shows on.side (walk u (begin u k there.row there.column x))).page) depth
         ∙ ap (λ (x : ℕ). g * t + x) (shown_is on.side end ∙ on.page)
         ∙ sum
@@ -152,8 +152,8 @@ module _ (u : Letters) (k : ℕ) (positive : 1 ≤ k) where
       row = there.row;
       column = column;
       side_is = number_within k g s (pages / t) on.side sheet_low sheet_high (div_below (q - 1) t (pages / t) some (omega (arith, div-add-mod' pages t)));
-      row_is = (there.row_low, there.row-high);
-      column_is = across_within u on.side there.column there.column-low there.column-high;
+      row_is = (there.row_low, there.row_high);
+      column_is = across_within u on.side there.column there.column_low there.column_high;
       shows = shown;
     }
 
@@ -177,7 +177,7 @@ module _ (u : Letters) (k pages : ℕ) (z : Size) (positive : 1 ≤ k) (q : ℕ)
   sheet_within = let m = mod_below (sheets_before x.side) k positive in (omega arith, omega arith)
 
   column_within : (1 ≤ cell_column) × (cell_column ≤ columns_of u)
-  column_within = across_within u face x.column x.column-is.0 x.column-is.1
+  column_within = across_within u face x.column x.column_is.0 x.column_is.1
 
   deep : 1 ≤ state.depth
   deep = (walk_depth u k sheet x.row cell_column sheet_within.0 sheet_within.1).0
@@ -227,9 +227,9 @@ module _ (u : Letters) (k pages : ℕ) (z : Size) (positive : 1 ≤ k) (q : ℕ)
 
   same_column : a.column ≡ b.column
   same_column =
-      sym (across_back u fa a.column a.column-is.0 a.column-is.1)
+      sym (across_back u fa a.column a.column_is.0 a.column_is.1)
       ∙ (λ i. across u (same_face i) (same_cell.1 i))
-      ∙ across_back u fb b.column b.column-is.0 b.column-is.1
+      ∙ across_back u fb b.column b.column_is.0 b.column_is.1
 
   same_number : a.side ≡ b.side
   same_number =
@@ -237,7 +237,7 @@ module _ (u : Letters) (k pages : ℕ) (z : Size) (positive : 1 ≤ k) (q : ℕ)
       let wa = sheet_within u k pages z positive q a in
       let wb = sheet_within u k pages z positive q b in
       let s : sheet_of k a.side ≡ sheet_of k b.side = omega (arith, same_cell.2) in
-      numbered k a.side a.side-is.0 ∙ (λ i. side_number k (g i) (s i) (same_face i)) ∙ sym (numbered k b.side b.side-is.0)
+      numbered k a.side a.side_is.0 ∙ (λ i. side_number k (g i) (s i) (same_face i)) ∙ sym (numbered k b.side b.side_is.0)
 
   pub same : SamePosition a b
   same = (same_number, same_cell.0, same_column)
