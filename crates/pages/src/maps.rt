@@ -38,9 +38,9 @@ fn near(v: i64) -> bool
 
 // What q quarter turns make of (x, y).
 fn turned(q: u8, x: i64, y: i64) -> (i64, i64)
-    requires q_le_max_turn { q ≤ max_turn }
-    requires x_value { near x ≡ true }
-    requires y_value { near y ≡ true }
+    requires quarter { q ≤ max_turn }
+    requires near_x { near x ≡ true }
+    requires near_y { near y ≡ true }
     ensures { result ≡ turned q (x, y) }
 {
     match q {
@@ -53,10 +53,10 @@ fn turned(q: u8, x: i64, y: i64) -> (i64, i64)
 
 // n·a + d·b, which the bounds keep within 64 bits.
 fn scaled(n: u32, a: i64, d: u32, b: i64) -> i64
-    requires n_le_max_ratio { n ≤ max_ratio }
-    requires d_le_max_ratio { d ≤ max_ratio }
-    requires a_value { near a ≡ true }
-    requires b_value { near b ≡ true }
+    requires small_n { n ≤ max_ratio }
+    requires small_d { d ≤ max_ratio }
+    requires near_a { near a ≡ true }
+    requires near_b { near b ≡ true }
     ensures { result ≡ pos n *ℤ a +ℤ pos d *ℤ b }
 {
     n as i64 * a + d as i64 * b
@@ -90,8 +90,8 @@ impl Map {
 
     // This map followed by the other, of two that fit.
     fn followed(self, other: Map) -> Option<Map>
-        requires self_value { fits self ≡ true }
-        requires other_value { fits other ≡ true }
+        requires first_fits { fits self ≡ true }
+        requires second_fits { fits other ≡ true }
         ensures { result ≡ (if fits (followed self other) then Some (followed self other) else None) }
     {
         let (x, y) = turned(other.turn, self.x, self.y);

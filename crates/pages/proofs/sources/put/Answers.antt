@@ -10,4 +10,4 @@ put_is i b bs x e =
     ∙ ap (λ (l : List ℕ). take i b ++ (bs ++ l)) (Post-is i (i + length bs) b (omega arith))
 
 pub returns : goal.returns
-returns c = put_is c.args.at c.args.buffer.now c.args.bytes.now c.copy-from-slice.new.self c.copy-from-slice.ensures.after
+returns c = put_is c.args.at c.args.buffer.now c.args.bytes.now c.copy_from_slice.new.self c.copy_from_slice.ensures.after
