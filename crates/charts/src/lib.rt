@@ -1,4 +1,6 @@
 //! Fold charts: the sheets of one signature as a person looks at them, and as plan lines for a program.
+#![tactic(auto)]
+
 use fold::{Cell, Mark, Position, Side, Signature};
 use std::{fmt, io};
 

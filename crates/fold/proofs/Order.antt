@@ -1,12 +1,12 @@
 -- The stack that is filled by the walk folds into reading order.
-use Rattle.std.proofs.Common.{◌≡◌, ℕ, zero, suc, ◌+◌, ◌-◌, ◌*◌, ◌%◌, ◌^◌, ◌<◌, ◌≤◌, Bool, true, false, cond, not, List, [], ◌∷◌, map, length, get_or, sym, refl, ap, ◌∙◌, subst, mul_assoc, arith}
+use Rattle.std.proofs.Common.{◌≡◌, ℕ, zero, suc, ◌+◌, ◌-◌, ◌*◌, ◌^◌, ◌<◌, ◌≤◌, Bool, true, false, cond, not, ◌∷◌, map, length, get_or, sym, refl, ap, ◌∙◌, mul_assoc, arith}
 use Rattle.std.specs.List.{range_with_len}
 use Rattle.std.proofs.lemmas.List.{ext_get_or}
 use Rattle.std.proofs.lemmas.List.FromFn.{length-map-range_with_len, get_or-map-range_with_len}
 use Rattle.std.proofs.lemmas.Bool.{eq-eqb, ne_eqb}
-use Rattle.fold.specs.Words.{Letters, columns_of, rows_of}
+use Rattle.fold.specs.Words.{Letters, columns_of}
 use Rattle.fold.specs.Walk.{begin, walk, odd, start, shows, Filling, laid}
-use Rattle.fold.specs.Folding.{Leaf, Stacked, exchanged, opposite, reversed, last, piled, stack, read, upright, named, page_count, times, turned_over, FoldsInOrder}
+use Rattle.fold.specs.Folding.{Leaf, Stacked, exchanged, opposite, reversed, last, piled, stack, read, upright, named, times, turned_over, FoldsInOrder}
 use Rattle.fold.specs.declared.sheets.Mark.{Mark}
 use Rattle.fold.specs.declared.sheets.Mark.TheVariants.{Upright, Turned}
 use Rattle.fold.specs.declared.sheets.Side.TheVariants.{One, Two}

@@ -1,5 +1,5 @@
-use Rattle.std.proofs.Common.{◌≡◌, ℕ, zero, suc, ◌+◌, ◌-◌, ◌*◌, ◌/◌, ◌%◌, ◌^◌, ◌<◌, ◌≤◌, Bool, true, false, cond, leb, List, [], ◌∷◌, sym, refl, ap, ◌∙◌, subst, mul_assoc, mul_comm, mul-le-mul_left, pow-suc, arith, pow_pos}
-use Rattle.std.proofs.lemmas.Bool.{leb-true, leb-false, cond_both}
+use Rattle.std.proofs.Common.{◌≡◌, ℕ, suc, ◌*◌, ◌/◌, ◌^◌, ◌≤◌, leb, sym, ap, ◌∙◌, mul_assoc, mul_comm, mul-le-mul_left, pow-suc, arith, pow_pos}
+use Rattle.std.proofs.lemmas.Bool.{cond_both}
 use Rattle.fold.specs.Walk.{step, Small, WithRoom}
 use Rattle.fold.specs.declared.letters.Letter.{Letter}
 use Rattle.fold.specs.declared.letters.Letter.TheVariants.{W, N}

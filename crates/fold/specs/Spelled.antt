@@ -7,9 +7,9 @@ abbrev pub spelled : Word → Letters
 spelled w = letters w.len w.mask
 
 -- The letters read so far; none is no word yet.
-abbrev pub so_far : Option Word → Letters
-so_far (Some w) = spelled w
-so_far None = []
+abbrev pub spelled_so_far : Option Word → Letters
+spelled_so_far (Some w) = spelled w
+spelled_so_far None = []
 
 abbrev pub text_of : Letters → List ℕ
 text_of w = map code w

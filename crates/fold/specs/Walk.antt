@@ -4,7 +4,6 @@ use Rattle.fold.specs.Words.{Letters, columns_of, rows_of}
 use Rattle.fold.specs.declared.letters.Letter.{Letter}
 use Rattle.fold.specs.declared.letters.Letter.TheVariants.{W, N}
 use Rattle.fold.specs.declared.sheets.Cell.{Cell}
-use Rattle.fold.specs.declared.sheets.Mark.{Mark}
 use Rattle.fold.specs.declared.sheets.Mark.TheVariants.{Upright, Turned}
 use Rattle.fold.specs.declared.sheets.Position.{Position}
 use Rattle.fold.specs.declared.sheets.Side.{Side}

@@ -2,6 +2,8 @@
 //!
 //! A fold word says how the stack is folded. The walk finds the page and mark of one position without folding
 //! anything; the folding rule in `specs/Folding.antt` says what folding does to a stack; `theorems` ties the two.
+#![tactic(auto)]
+
 mod letters;
 mod sheets;
 mod signature;

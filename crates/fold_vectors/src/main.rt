@@ -1,4 +1,6 @@
 //! Prints the plans of all five schemes at 1, 2, 3 and 16 sheets; the file `stdout` holds them as worked out by others.
+#![tactic(auto)]
+
 use charts::print_plan;
 use fold::{Signature, Word};
 use std::io;

@@ -1,5 +1,5 @@
 ghost use Rattle.std.specs.Prelude.{◌≡◌, ◌^◌, ◌<◌, ◌≤◌, [], ◌∷◌, ◌++◌, length, Some, MatchOption};
-ghost use Rattle.fold.specs.Spelled.{Reads, so_far, spelled};
+ghost use Rattle.fold.specs.Spelled.{Reads, spelled_so_far, spelled};
 ghost use Rattle.fold.specs.Walk.{WithRoom, walk};
 ghost use Rattle.fold.specs.Words.{columns_of, count_n, count_w, rows_of, scheme};
 ghost use Rattle.std.specs.List.{slice_get};
@@ -52,7 +52,7 @@ impl Word {
 
     /// One letter more after those so far, which may be none.
     fn extended(so_far: Option<Word>, letter: Letter) -> Option<Word>
-        ensures { MatchOption result (length (so_far so_far) ≡ 4) (λ w. spelled w ≡ so_far so_far ++ letter ∷ []) }
+        ensures { MatchOption result (length (spelled_so_far so_far) ≡ 4) (λ w. spelled w ≡ spelled_so_far so_far ++ letter ∷ []) }
     {
         match so_far {
             Some(word) => word.push(letter),

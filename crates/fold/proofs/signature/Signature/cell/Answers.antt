@@ -1,12 +1,12 @@
-use Rattle.std.proofs.Common.{◌≡◌, ◌^◌, ◌≤◌, arith, pow_mono}
+use Rattle.std.proofs.Common.{◌^◌, ◌≤◌, arith, pow_mono}
 use Rattle.std.proofs.lemmas.Nat.{mul-le}
 use Rattle.fold.specs.Spelled.{spelled}
 use Rattle.fold.specs.Words.{count_w}
 use Rattle.fold.proofs.Masks.{count-all, length-letters}
 use Rattle.fold.proofs.signature.Signature.cell.Goals as goal
 
-pub overflow-add-column : goal.overflow-add-column
-overflow-add-column c =
+pub overflow_add-column : goal.overflow_add-column
+overflow_add-column c =
     let w = c.args.self.now.word in
     let few : count_w (spelled w) ≤ 4 = omega (arith, count-all (spelled w), length-letters w.len w.mask, w.lettered.1) in
     let small : 2 ^ count_w (spelled w) ≤ 2 ^ 4 = pow_mono few in

@@ -14,8 +14,8 @@ few c =
     let small : 2 ^ length (spelled w) ≤ 2 ^ 4 = pow_mono short in
     omega (arith, cells_are c)
 
-pub overflow-mul-result : goal.overflow-mul-result
-overflow-mul-result c = omega (arith, few c)
+pub overflow_mul-result : goal.overflow_mul-result
+overflow_mul-result c = omega (arith, few c)
 
 pub returns : goal.returns
 returns c = (cells_are c, few c)

@@ -1,4 +1,4 @@
-use Rattle.std.proofs.Common.{refl, arith, rules}
+use Rattle.std.proofs.Common.{refl}
 use Rattle.fold.specs.Spelled.{spelled}
 use Rattle.fold.proofs.Order.{folds_in_order}
 use Rattle.fold.proofs.signature.Signature.new.Goals as goal

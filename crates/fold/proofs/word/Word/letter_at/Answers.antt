@@ -5,4 +5,4 @@ use Rattle.fold.proofs.word.Word.letter_at.Goals as goal
 pub returns : goal.returns
 returns c =
     let w = c.args.self.now in
-    ap Some c.of-digit.ensures ∙ sym (nth_letters w.len w.mask c.args.index c.requires)
+    ap Some c.of_digit.ensures ∙ sym (nth_letters w.len w.mask c.args.index c.requires)

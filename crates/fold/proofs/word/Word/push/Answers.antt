@@ -1,15 +1,18 @@
-use Rattle.std.proofs.Common.{◌≡◌, ◌+◌, ◌^◌, ◌<◌, [], ◌∷◌, ◌++◌, sym, ap, ◌∙◌, subst, arith}
+use Rattle.std.proofs.Common.{◌+◌, ◌^◌, ◌<◌, [], ◌∷◌, ◌++◌, sym, ap, ◌∙◌, subst, arith}
 use Rattle.fold.specs.Words.{letters}
 use Rattle.fold.proofs.Masks.{digit_low, of_digit_of, set_digit, set_below, letters_push}
 use Rattle.fold.proofs.word.Word.push.Goals as goal
 
-pub invariant-of-result : goal.invariant-of-result
-invariant-of-result c =
+pub invariant_of-result : goal.invariant_of-result
+invariant_of-result c =
     let w = c.args.self in
     let d = c.digit.result in
     let low : d < 2 = subst (λ x. x < 2) (sym c.digit.ensures) (digit_low c.args.letter) in
     let e = set_digit w.len w.mask d c.if-self-ge4.false w.within low in
-    ((omega arith, omega (arith, c.if-self-ge4.false)), (subst (λ m. m < 2 ^ (w.len + 1)) (sym e) (set_below w.len w.mask d w.within low), tt))
+    record {
+      lettered = (omega arith, omega (arith, c.if-self-ge4.false));
+      within = subst (λ m. m < 2 ^ (w.len + 1)) (sym e) (set_below w.len w.mask d w.within low);
+    }
 
 pub returns : goal.returns
 returns c =

@@ -1,4 +1,4 @@
-use Rattle.std.proofs.Common.{◌≡◌, ℕ, suc, ◌+◌, ◌-◌, ◌*◌, ◌/◌, ◌%◌, ◌^◌, ◌<◌, ◌≤◌, sym, refl, ap, ◌∙◌, subst, arith}
+use Rattle.std.proofs.Common.{◌≡◌, ℕ, suc, ◌+◌, ◌-◌, ◌/◌, ◌%◌, sym, refl, ap, ◌∙◌, subst, arith}
 use Rattle.fold.specs.Words.{letters, of_digit}
 use Rattle.fold.specs.Walk.{step, walk, WithRoom}
 use Rattle.fold.specs.declared.walk.CellState.{CellState}
@@ -25,7 +25,7 @@ loop-done-preserved c =
     let e : w.len - c.loop-done.done ≡ suc n = omega (arith, c.loop-done-test.true) in
     let inv = subst (λ m. Leads end c.loop-done.rest m c.loop-done.cell) e c.loop-done.invariant in
     let q : step (of_digit (c.loop-done.rest % 2)) c.loop-done.cell ≡ c.take-cell.result =
-    ap (λ l. step l c.loop-done.cell) (sym c.of-digit.ensures) ∙ sym c.take-cell.ensures in
+    ap (λ l. step l c.loop-done.cell) (sym c.of_digit.ensures) ∙ sym c.take-cell.ensures in
     subst (Leads end (c.loop-done.rest / 2) n) q (inv.0, room_step n (of_digit (c.loop-done.rest % 2)) c.loop-done.cell inv.1)
 
 pub returns : goal.returns
