@@ -17,7 +17,7 @@ use pages::sources::Source;
 
 // How many placements a part shows.
 fn part_count<S: Source>(below: &S, part: Part) -> u32
-    ensures all { result ≡ length (part_shown (meaning below.now) part) }
+    ensures all { result ≡ length (part_shown (S.Source.meaning below.now) part) }
     ensures few { result ≤ max_placements }
 {
     match below.laid(part.page) {
@@ -28,7 +28,7 @@ fn part_count<S: Source>(below: &S, part: Part) -> u32
 
 // The placement in a slot of a part.
 fn part_place<S: Source>(below: &S, part: Part, slot: u32) -> Option<Placement>
-    ensures { result ≡ slot_at (part_shown (meaning below.now) part) slot }
+    ensures { result ≡ slot_at (part_shown (S.Source.meaning below.now) part) slot }
 {
     match below.place(part.page, slot) {
         Ok(p) => Some(Placement {
@@ -41,7 +41,7 @@ fn part_place<S: Source>(below: &S, part: Part, slot: u32) -> Option<Placement>
 
 // Whether each placement of a part keeps the bounds.
 fn part_near<S: Source>(below: &S, part: Part) -> bool
-    ensures { result ≡ part_follows (meaning below.now) part }
+    ensures { result ≡ part_follows (S.Source.meaning below.now) part }
 {
     let Ok(count) = below.laid(part.page) else {
         return true;

@@ -1,4 +1,5 @@
 //! Layers over page sources: each shows the pages of the source below by a rule, and is a source itself.
+#![tactic(auto)]
 
 pub mod extent;
 pub mod laws;

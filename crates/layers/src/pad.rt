@@ -25,8 +25,8 @@ pub type Pad<S> = Layer<S, Blanks>;
 
 // The least multiple from a number of pages on.
 fn padded(pages: u32, multiple: u32) -> u32
-    requires pages_le_max_pages { pages ≤ max_pages }
-    requires le_multiple { (1 ≤ multiple) × (multiple ≤ max_multiple) }
+    requires in_bounds { pages ≤ max_pages }
+    requires orderable { (1 ≤ multiple) × (multiple ≤ max_multiple) }
     ensures { result ≡ pad_count multiple pages }
 {
     (pages + (multiple - 1)) / multiple * multiple

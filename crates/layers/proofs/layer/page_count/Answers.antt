@@ -11,7 +11,7 @@ pub loop-index-preserved : goal.loop-index-preserved
 loop-index-preserved g c =
     let m : Meaning = g.S.Source.meaning c.args.below.now in
     let e = count_more m (g.R.Rule.shows c.args.rule.now m c.args.page) c.loop-index.index c.in-Some.part c.in-Some.ensures in
-    let f = c.part-count-total.ensures.all in
+    let f = c.part_count-total.ensures.all in
     let i = c.loop-index.invariant.0 in
     (omega arith, omega arith)
 
@@ -21,8 +21,8 @@ returns-after-loop-index g c =
     let xs : Parts = g.R.Rule.shows c.args.rule.now m c.args.page in
     stop m xs c.loop-index.index c.loop-index.total (length (shown m xs)) c.loop-index.invariant.0 (over_end m xs c.loop-index.index c.count-index-end.result c.count-index-end.ensures.all c.loop-index-test.false)
 
-pub returns-in-default : goal.returns-in-default
-returns-in-default g c =
+pub returns-in_default : goal.returns-in_default
+returns-in_default g c =
     let m : Meaning = g.S.Source.meaning c.args.below.now in
     let xs : Parts = g.R.Rule.shows c.args.rule.now m c.args.page in
-    stop m xs c.loop-index.index c.loop-index.total (length (shown m xs)) c.loop-index.invariant.0 (over_none m xs c.loop-index.index c.in-default.ensures)
+    stop m xs c.loop-index.index c.loop-index.total (length (shown m xs)) c.loop-index.invariant.0 (over_none m xs c.loop-index.index c.in_default.ensures)

@@ -12,23 +12,23 @@ stop m xs i s o h e = sym (h ∙ ap (λ (l : Parts). slot_at (shown m l) s) e �
     none zero = refl
     none (suc s) = refl
 
-pub returns-in-err-part : goal.returns-in-err-part
-returns-in-err-part g c =
+pub returns-in_err-part : goal.returns-in_err-part
+returns-in_err-part g c =
     let m : Meaning = g.S.Source.meaning c.args.below.now in
     let xs : Parts = g.R.Rule.shows c.args.rule.now m c.args.page in
-    c.from-residual.ensures ∙ stop m xs c.loop-index.index c.loop-index.rest (slot_at (shown m xs) c.args.slot) c.loop-index.invariant (over_none m xs c.loop-index.index (sym c.in-err-part.was ∙ c.part.ensures))
+    c.from_residual.ensures ∙ stop m xs c.loop-index.index c.loop-index.rest (slot_at (shown m xs) c.args.slot) c.loop-index.invariant (over_none m xs c.loop-index.index (sym c.in_err-part.was ∙ c.part.ensures))
 
 pub returns-then-rest-n : goal.returns-then-rest-n
 returns-then-rest-n g c =
     let m : Meaning = g.S.Source.meaning c.args.below.now in
     let xs : Parts = g.R.Rule.shows c.args.rule.now m c.args.page in
-    c.part-place.ensures ∙ sym (c.loop-index.invariant ∙ slot_here m xs c.loop-index.index c.in-ok-part.part (sym c.in-ok-part.was ∙ c.part.ensures) c.loop-index.rest c.part-count-n.result c.part-count-n.ensures.all c.if-rest-n.true)
+    c.part_place.ensures ∙ sym (c.loop-index.invariant ∙ slot_here m xs c.loop-index.index c.in_ok-part.part (sym c.in_ok-part.was ∙ c.part.ensures) c.loop-index.rest c.part_count-n.result c.part_count-n.ensures.all c.if-rest-n.true)
 
 pub loop-index-preserved : goal.loop-index-preserved
 loop-index-preserved g c =
     let m : Meaning = g.S.Source.meaning c.args.below.now in
     let xs : Parts = g.R.Rule.shows c.args.rule.now m c.args.page in
-    c.loop-index.invariant ∙ slot_on m xs c.loop-index.index c.in-ok-part.part (sym c.in-ok-part.was ∙ c.part.ensures) c.loop-index.rest c.part-count-n.result c.part-count-n.ensures.all c.if-rest-n.false
+    c.loop-index.invariant ∙ slot_on m xs c.loop-index.index c.in_ok-part.part (sym c.in_ok-part.was ∙ c.part.ensures) c.loop-index.rest c.part_count-n.result c.part_count-n.ensures.all c.if-rest-n.false
 
 pub returns : goal.returns
 returns g c =

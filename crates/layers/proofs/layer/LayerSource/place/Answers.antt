@@ -6,17 +6,17 @@ use Rattle.pages.specs.declared.faults.Refusal.TheVariants.{NoSuch}
 use Rattle.layers.specs.Showing.{place_layered, refused_layered}
 use Rattle.layers.proofs.layer.LayerSource.place.Goals as goal
 
-pub returns-then-slot-gt-MAX-PLACEMENTS : goal.returns-then-slot-gt-MAX-PLACEMENTS
-returns-then-slot-gt-MAX-PLACEMENTS g c =
+pub returns-then-slot-gt-MAX_PLACEMENTS : goal.returns-then-slot-gt-MAX_PLACEMENTS
+returns-then-slot-gt-MAX_PLACEMENTS g c =
     let s = c.args.self.now in
     let m : Meaning = g.S.Source.meaning s.below in
     ap (λ (f : Fault). Err f) (c.new-refused.ensures ∙ ap (λ (d : ℕ). fault NoSuch d c.args.page) c.depth.ensures)
-    ∙ refused_layered (g.R.Rule.shows s.rule m) s.extent m c.args.page c.if-page-lt1.false c.if-self-page.false c.args.slot c.if-slot-gt-MAX-PLACEMENTS.true
+    ∙ refused_layered (g.R.Rule.shows s.rule m) s.extent m c.args.page c.if-page-lt1.false c.if-self-page.false c.args.slot c.if-slot-gt-MAX_PLACEMENTS.true
 
 pub returns : goal.returns
 returns g c =
     let s = c.args.self.now in
     let m : Meaning = g.S.Source.meaning s.below in
-    c.ok-or.ensures.value
-    ∙ ap (λ (f : Fault). ok_or c.page-place.result f) (c.new-refused.ensures ∙ ap (λ (d : ℕ). fault NoSuch d c.args.page) c.depth.ensures)
-    ∙ place_layered (g.R.Rule.shows s.rule m) s.extent m c.args.page c.if-page-lt1.false c.if-self-page.false c.args.slot c.page-place.result c.if-slot-gt-MAX-PLACEMENTS.false c.page-place.ensures
+    c.ok_or.ensures.value
+    ∙ ap (λ (f : Fault). ok_or c.page_place.result f) (c.new-refused.ensures ∙ ap (λ (d : ℕ). fault NoSuch d c.args.page) c.depth.ensures)
+    ∙ place_layered (g.R.Rule.shows s.rule m) s.extent m c.args.page c.if-page-lt1.false c.if-self-page.false c.args.slot c.page_place.result c.if-slot-gt-MAX_PLACEMENTS.false c.page_place.ensures

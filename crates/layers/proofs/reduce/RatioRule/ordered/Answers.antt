@@ -14,13 +14,12 @@ reduced w n d a b c e =
     let l : w * n < suc w * d = omega (arith, mul-le-mul_left w c, suc-mul w d) in
     (some (w * n / d) d (w * n) (omega (arith, div-add-mod' (w * n) d)) x, omega (arith, a.1, div_below (w * n) d (suc w) (omega arith) l))
 
-pub invariant-of-extent : goal.invariant-of-extent
-invariant-of-extent g c =
+pub invariant_of-extent : goal.invariant_of-extent
+invariant_of-extent g c =
     let l = g.met.S.Source.lawful c.args.below.now in
-    let x = c.of-pages.result in (
-      reduced x.size.width c.args.order.num c.args.order.den x.wide (omega arith) (omega arith) (omega arith),
-      (
-        reduced x.size.height c.args.order.num c.args.order.den x.high (omega arith) (omega arith) (omega arith),
-        (x.paged, tt),
-      ),
-    )
+    let x = c.of-pages.result in
+    record {
+      wide = reduced x.size.width c.args.order.num c.args.order.den x.wide (omega arith) (omega arith) (omega arith);
+      high = reduced x.size.height c.args.order.num c.args.order.den x.high (omega arith) (omega arith) (omega arith);
+      paged = x.paged;
+    }

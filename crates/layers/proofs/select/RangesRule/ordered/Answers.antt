@@ -6,7 +6,7 @@ use Rattle.layers.specs.declared.parts.Objection.{Objection}
 use Rattle.layers.specs.declared.ranges.Range.{Range}
 use Rattle.layers.proofs.Selecting.{total_added, old_missing, new_missing, too_many, nothing, taken}
 use Rattle.layers.proofs.select.RangesRule.ordered.Goals as goal
-use Rattle.layers.proofs.select.RangesRule.ordered.Goals.{then-self-ge-MAX-RANGES-via-then-self-ge-MAX-RANGES, then-self-ge-MAX-RANGES-via-else-self-ge-MAX-RANGES+then-pages}
+use Rattle.layers.proofs.select.RangesRule.ordered.Goals.{then-self-ge-MAX_RANGES-via-then-self-ge-MAX_RANGES, then-self-ge-MAX_RANGES-via-else-self-ge-MAX_RANGES+then-pages}
 
 -- so many ranges, and one more
 added : (k : ℕ) (given : List Range) (r : Range) → k ≤ length given → length (take k given ++ r ∷ []) ≡ k + 1
@@ -19,20 +19,20 @@ pub returns-in-Some : goal.returns-in-Some
 returns-in-Some g c =
     let s = c.args.self.now in
     let m : Meaning = g.S.Source.meaning c.args.below.now in
-    let w : half_blank c.args.order ≡ false = sym c.half-blank.ensures ∙ c.if-half-blank.false in
+    let w : half_blank c.args.order ≡ false = sym c.half_blank.ensures ∙ c.if-half_blank.false in
     old_missing (take s.count s.given) c.args.order m c.of-pages.result.pages c.of-pages.ensures.1 w c.in-Some.page
     (moved_to c.ranges-2.result.now (take s.count s.given) c.of-pages.result.pages (Some c.in-Some.page) c.ranges-2.ensures c.in-Some.ensures)
     ∙ ap (λ (o : Objection). Some o) (sym c.new-in-Some.ensures)
 
-pub returns-in-Some-first-missing : goal.returns-in-Some-first-missing
-returns-in-Some-first-missing g c =
+pub returns-in-Some-first_missing : goal.returns-in-Some-first_missing
+returns-in-Some-first_missing g c =
     let s = c.args.self.now in
     let m : Meaning = g.S.Source.meaning c.args.below.now in
-    let w : half_blank c.args.order ≡ false = sym c.half-blank.ensures ∙ c.if-half-blank.false in
+    let w : half_blank c.args.order ≡ false = sym c.half_blank.ensures ∙ c.if-half_blank.false in
     new_missing (take s.count s.given) c.args.order m c.of-pages.result.pages c.of-pages.ensures.1 w
-    (moved_to c.ranges-2.result.now (take s.count s.given) c.of-pages.result.pages None c.ranges-2.ensures c.in-default.ensures)
-    c.in-Some-first-missing.page (sym c.in-Some-first-missing.ensures)
-    ∙ ap (λ (o : Objection). Some o) (sym c.new-in-Some-first-missing.ensures)
+    (moved_to c.ranges-2.result.now (take s.count s.given) c.of-pages.result.pages None c.ranges-2.ensures c.in_default.ensures)
+    c.in-Some-first_missing.page (sym c.in-Some-first_missing.ensures)
+    ∙ ap (λ (o : Objection). Some o) (sym c.new-in-Some-first_missing.ensures)
 
 pub total-requires : goal.total-requires
 total-requires g c =
@@ -43,33 +43,33 @@ total-requires g c =
 totals : (xs rs : List Range) (r : Range) (t n : ℕ) → xs ≡ rs → t ≡ length (all_pages_of xs) → n ≡ length (pages_of r) → length (all_pages_of (rs ++ r ∷ [])) ≡ t + n
 totals xs rs r t n e f h = omega (arith, total_added rs r, ap (λ (zs : List Range). length (all_pages_of zs)) e)
 
-pub returns-then-self-ge-MAX-RANGES : goal.returns-then-self-ge-MAX-RANGES
-returns-then-self-ge-MAX-RANGES g c =
+pub returns-then-self-ge-MAX_RANGES : goal.returns-then-self-ge-MAX_RANGES
+returns-then-self-ge-MAX_RANGES g c =
     let s = c.args.self.now in
     let rs : List Range = take s.count s.given in
     let m : Meaning = g.S.Source.meaning c.args.below.now in
-    let w : half_blank c.args.order ≡ false = sym c.half-blank.ensures ∙ c.if-half-blank.false in
+    let w : half_blank c.args.order ≡ false = sym c.half_blank.ensures ∙ c.if-half_blank.false in
     let t = totals c.ranges-3.result.now rs c.args.order c.total.result c.span.result c.ranges-3.ensures c.total.ensures.all c.span.ensures.all in
     let a = added s.count s.given c.args.order (omega (arith, s.most, s.long)) in
     too_many rs c.args.order m c.of-pages.result.pages c.of-pages.ensures.1 w
-    (moved_to c.ranges-2.result.now rs c.of-pages.result.pages None c.ranges-2.ensures c.in-default.ensures)
-    (sym c.in-default-first-missing.ensures)
-    (elim c.then-self-ge-MAX-RANGES.branch [
-      | then-self-ge-MAX-RANGES-via-then-self-ge-MAX-RANGES v ↦ inl (omega (arith, v.if-self-ge-MAX-RANGES.true))
-      | then-self-ge-MAX-RANGES-via-else-self-ge-MAX-RANGES+then-pages v ↦ inr (omega (arith, v.if-pages.true))
+    (moved_to c.ranges-2.result.now rs c.of-pages.result.pages None c.ranges-2.ensures c.in_default.ensures)
+    (sym c.in_default-first_missing.ensures)
+    (elim c.then-self-ge-MAX_RANGES.branch [
+      | then-self-ge-MAX_RANGES-via-then-self-ge-MAX_RANGES v ↦ inl (omega (arith, v.if-self-ge-MAX_RANGES.true))
+      | then-self-ge-MAX_RANGES-via-else-self-ge-MAX_RANGES+then-pages v ↦ inr (omega (arith, v.if-pages.true))
     ])
-    ∙ ap (λ (o : Objection). Some o) (sym c.new-then-self-ge-MAX-RANGES.ensures)
+    ∙ ap (λ (o : Objection). Some o) (sym c.new-then-self-ge-MAX_RANGES.ensures)
 
 pub returns : goal.returns
 returns g c =
     let s = c.args.self.now in
     let rs : List Range = take s.count s.given in
     let m : Meaning = g.S.Source.meaning c.args.below.now in
-    let w : half_blank c.args.order ≡ false = sym c.half-blank.ensures ∙ c.if-half-blank.false in
+    let w : half_blank c.args.order ≡ false = sym c.half_blank.ensures ∙ c.if-half_blank.false in
     let t = totals c.ranges-3.result.now rs c.args.order c.total.result c.span.result c.ranges-3.ensures c.total.ensures.all c.span.ensures.all in
     let a = added s.count s.given c.args.order (omega (arith, s.most, s.long)) in
-    let old = moved_to c.ranges-2.result.now rs c.of-pages.result.pages None c.ranges-2.ensures c.in-default.ensures in
-    let new = sym c.in-default-first-missing.ensures in (
+    let old = moved_to c.ranges-2.result.now rs c.of-pages.result.pages None c.ranges-2.ensures c.in_default.ensures in
+    let new = sym c.in_default-first_missing.ensures in (
       nothing rs c.args.order m c.of-pages.result.pages c.of-pages.ensures.1 w old new (omega arith) (omega arith),
       taken rs c.args.order m c.of-pages.result.pages c.of-pages.ensures.1 w old new
           (take (s.count + 1) (set s.given s.count c.args.order)) _
