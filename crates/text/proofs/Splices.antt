@@ -1,5 +1,5 @@
 -- Laws of `splice`.
-use Rattle.std.proofs.Common.{◌≡◌, ℕ, ◌+◌, ◌<◌, ◌≤◌, min, List, [], ◌∷◌, ◌++◌, length, take, drop, set, sym, refl, ap, ◌∙◌, append_assoc, add-zero, add_assoc, add-one, arith, length-append, length-drop, length-set, length-take, rules}
+use Rattle.std.proofs.Common.{◌≡◌, ℕ, ◌+◌, ◌<◌, ◌≤◌, List, [], ◌∷◌, ◌++◌, length, take, drop, set, sym, refl, ap, ◌∙◌, append_assoc, add-zero, add_assoc, add-one, arith, length-append, length-drop, length-set, length-take}
 use lib.Seq.{paste}
 use Rattle.std.proofs.lemmas.List.{take-append-drop, set_split, take_at, length-take-le, drop-append-le}
 use Rattle.std.proofs.lemmas.List.Edits.{paste_all, paste-paste}

@@ -1,4 +1,6 @@
 //! Text as pieces, its length, and its bytes in a lent buffer.
+#![tactic(auto)]
+
 ghost use Rattle.std.specs.Prelude.{◌≡◌, ◌+◌, ◌-◌, ◌^◌, ◌<◌, ◌≤◌, min, [], ◌∷◌, length, decimal};
 ghost use Rattle.pages.specs.Meaning.{written};
 ghost use Rattle.std.specs.Fmt.{signed_decimal};

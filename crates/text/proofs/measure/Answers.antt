@@ -8,9 +8,9 @@ pub loop-piece-preserved : goal.loop-piece-preserved
 loop-piece-preserved c =
     let i = c.loop-piece.piece-index in
     let ps = c.args.pieces.now in
-    let e : length (spelled_all (take i ps)) + c.piece-length.result ≡ length (spelled_all (take (i + 1) ps)) =
-    ap (λ n. length (spelled_all (take i ps)) + n) c.piece-length.ensures ∙ length-next spelled ps i _ c.loop-piece-test.true in
-    (omega (arith, c.loop-piece-test.true), omega (arith, c.loop-piece.invariant.1, c.saturating-add-total.ensures))
+    let e : length (spelled_all (take i ps)) + c.piece_length.result ≡ length (spelled_all (take (i + 1) ps)) =
+    ap (λ n. length (spelled_all (take i ps)) + n) c.piece_length.ensures ∙ length-next spelled ps i _ c.loop-piece-test.true in
+    (omega (arith, c.loop-piece-test.true), omega (arith, c.loop-piece.invariant.1, c.saturating_add-total.ensures))
 
 pub returns : goal.returns
 returns c =
