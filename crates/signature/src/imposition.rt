@@ -50,9 +50,9 @@ fn sides(signature: Signature, pages: u32) -> u32
 
 // The map of a position, for pages of a size on so many rows.
 fn position_map(size: Size, rows: u32, row: u32, column: u32, mark: Mark) -> Map
-    requires width_le_max_side { (size.width ≤ max_side) × (size.height ≤ max_side) }
-    requires row_le_rows { (row ≤ rows) × (rows ≤ 16) }
-    requires le_column { (1 ≤ column) × (column ≤ 16) }
+    requires size_bounded { (size.width ≤ max_side) × (size.height ≤ max_side) }
+    requires row_within { (row ≤ rows) × (rows ≤ 16) }
+    requires column_within { (1 ≤ column) × (column ≤ 16) }
     ensures { result ≡ position_map size rows row column mark }
 {
     let x = (column - 1) * size.width;
@@ -77,8 +77,8 @@ fn position_map(size: Size, rows: u32, row: u32, column: u32, mark: Mark) -> Map
 
 // Where the position at an index of a side is, of so many columns.
 fn spot(columns: u32, sheets: u32, side: u32, index: u32) -> Position
-    requires le_columns { (1 ≤ columns) × (1 ≤ sheets) }
-    requires index_le_max_pages { (index ≤ max_pages) × (side ≤ max_pages) }
+    requires positive { (1 ≤ columns) × (1 ≤ sheets) }
+    requires bounded { (index ≤ max_pages) × (side ≤ max_pages) }
     ensures { result ≡ spot_at columns sheets side index }
 {
     Position {
@@ -100,8 +100,8 @@ fn pages_before(signature: Signature, side: u32) -> u32
 
 // The position at an index of a side.
 fn position(signature: Signature, size: Size, side: u32, index: u32) -> Option<Part>
-    requires width_le_max_side { (size.width ≤ max_side) × (size.height ≤ max_side) }
-    requires side_le_max_pages { side ≤ max_pages }
+    requires size_bounded { (size.width ≤ max_side) × (size.height ≤ max_side) }
+    requires side_within { side ≤ max_pages }
     ensures { result ≡ slice_get (positions (letters_of signature) signature.sheets size side) index }
 {
     let rows = signature.rows();

@@ -1,4 +1,5 @@
 //! The Signature layer: pages are laid on the sides of sheets that are stacked and folded.
+#![tactic(auto)]
 
 pub mod imposition;
 pub mod laws;

@@ -8,8 +8,8 @@ use Rattle.signature.proofs.Grids.{grid_at, takes, row_below, column_below}
 use Rattle.signature.proofs.Positions.{position_past, position_is, no_cell, cell_page}
 use Rattle.signature.proofs.imposition.position.Goals as goal
 
-pub overflow-mul-rows : goal.overflow-mul-rows
-overflow-mul-rows c = omega (arith, (grid_at c.args.signature c.rows-rows.result c.columns-columns.result c.rows-rows.ensures c.columns-columns.ensures).few.1)
+pub overflow_mul-rows : goal.overflow_mul-rows
+overflow_mul-rows c = omega (arith, (grid_at c.args.signature c.rows-rows.result c.columns-columns.result c.rows-rows.ensures c.columns-columns.ensures).few.1)
 
 pub returns-then-rows-columns : goal.returns-then-rows-columns
 returns-then-rows-columns c =
@@ -22,10 +22,10 @@ returns-then-rows-columns c =
 pub spot-at-requires : goal.spot-at-requires
 spot-at-requires c =
     let q = grid_at c.args.signature c.rows-rows.result c.columns-columns.result c.rows-rows.ensures c.columns-columns.ensures in
-    ((q.wide.0, omega (arith, c.args.signature.thickness.0, c.sheets.ensures)), (omega (arith, q.few.1, c.if-rows-columns.false), c.requires.1))
+    record { positive = (q.wide.0, omega (arith, c.args.signature.thickness.0, c.sheets.ensures)); bounded = (omega (arith, q.few.1, c.if-rows-columns.false), c.requires.side_within) }
 
-pub returns-in-err-cell : goal.returns-in-err-cell
-returns-in-err-cell c =
+pub returns-in_err-cell : goal.returns-in_err-cell
+returns-in_err-cell c =
     let s = c.args.signature in
     let q = grid_at s c.rows-rows.result c.columns-columns.result c.rows-rows.ensures c.columns-columns.ensures in
     let a = row_below c.rows-rows.result c.columns-columns.result c.args.index q.wide.0 c.if-rows-columns.false in
@@ -38,31 +38,31 @@ returns-in-err-cell c =
     let l = ap (λ (p : Position). p.sheet) c.spot-at.ensures in
     let m = ap (λ (p : Position). p.row) c.spot-at.ensures in
     let n = ap (λ (p : Position). p.column) c.spot-at.ensures in
-    absurd (no_cell (letters_of s) s.sheets c.spot-at.result (omega arith) (omega arith) (omega arith) (omega arith) (omega arith) (omega arith) c.in-err-cell.ensures)
+    absurd (no_cell (letters_of s) s.sheets c.spot-at.result (omega arith) (omega arith) (omega arith) (omega arith) (omega arith) (omega arith) c.in_err-cell.ensures)
 
-pub overflow-add-result : goal.overflow-add-result
-overflow-add-result c =
+pub overflow_add-result : goal.overflow_add-result
+overflow_add-result c =
     let s = c.args.signature in
     let k = s.thickness in
     let e = c.sheets.ensures in
     let f = mod_below (sheets_before c.args.side) c.sheets.result (omega arith) in
     let l = ap (λ (p : Position). p.sheet) c.spot-at.ensures in
-    let g = cell_page (letters_of s) s.sheets c.spot-at.result c.in-ok-cell.cell (omega arith) (omega arith) c.in-ok-cell.ensures in
-    omega (arith, (takes s).most, c.pages-before.ensures.few)
+    let g = cell_page (letters_of s) s.sheets c.spot-at.result c.in_ok-cell.cell (omega arith) (omega arith) c.in_ok-cell.ensures in
+    omega (arith, (takes s).most, c.pages_before.ensures.few)
 
-pub position-map-requires : goal.position-map-requires
-position-map-requires c =
+pub position_map-requires : goal.position_map-requires
+position_map-requires c =
     let q = grid_at c.args.signature c.rows-rows.result c.columns-columns.result c.rows-rows.ensures c.columns-columns.ensures in
     let a = row_below c.rows-rows.result c.columns-columns.result c.args.index q.wide.0 c.if-rows-columns.false in
     let b = column_below c.columns-columns.result c.args.index q.wide.0 in
     let m = ap (λ (p : Position). p.row) c.spot-at.ensures in
     let n = ap (λ (p : Position). p.column) c.spot-at.ensures in
-    (c.requires.0, (omega arith, q.high.1), (omega arith, omega (arith, q.wide.1)))
+    record { size_bounded = c.requires.size_bounded; row_within = (omega arith, q.high.1); column_within = (omega arith, omega (arith, q.wide.1)) }
 
 pub returns : goal.returns
 returns c =
     let s = c.args.signature in
     position_is (letters_of s) s.sheets c.args.size c.args.side c.args.index
-    c.rows-rows.result c.columns-columns.result c.sheets.result c.pages-before.result c.spot-at.result c.in-ok-cell.cell c.position-map.result
-    c.if-rows-columns.false c.rows-rows.ensures c.columns-columns.ensures c.sheets.ensures c.spot-at.ensures c.pages-before.ensures.all
-    c.in-ok-cell.ensures c.position-map.ensures
+    c.rows-rows.result c.columns-columns.result c.sheets.result c.pages_before.result c.spot-at.result c.in_ok-cell.cell c.position_map.result
+    c.if-rows-columns.false c.rows-rows.ensures c.columns-columns.ensures c.sheets.ensures c.spot-at.ensures c.pages_before.ensures.all
+    c.in_ok-cell.ensures c.position_map.ensures

@@ -8,8 +8,8 @@ use Rattle.signature.proofs.Grids.{grid_at}
 use Rattle.signature.proofs.Positions.{count_is, side_shown}
 use Rattle.signature.proofs.imposition.ImpositionRule.count.Goals as goal
 
-pub overflow-mul-result : goal.overflow-mul-result
-overflow-mul-result g c = omega (arith, (grid_at c.in-Some.signature c.rows.result c.columns.result c.rows.ensures c.columns.ensures).few.1)
+pub overflow_mul-result : goal.overflow_mul-result
+overflow_mul-result g c = omega (arith, (grid_at c.in-Some.signature c.rows.result c.columns.result c.rows.ensures c.columns.ensures).few.1)
 
 pub returns-else-sides-page : goal.returns-else-sides-page
 returns-else-sides-page g c =
