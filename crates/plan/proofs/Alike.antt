@@ -1,5 +1,5 @@
 -- Fillings that agree at every position of a signature fold alike.
-use Rattle.std.proofs.Common.{◌≡◌, ℕ, zero, suc, ◌+◌, ◌-◌, ◌*◌, ◌/◌, ◌^◌, ◌≤◌, List, [], ◌∷◌, ◌++◌, map, reverse, refl, ap, ◌∙◌, pow-suc, arith}
+use Rattle.std.proofs.Common.{◌≡◌, ℕ, zero, suc, ◌+◌, ◌-◌, ◌*◌, ◌/◌, ◌^◌, ◌≤◌, [], ◌∷◌, ◌++◌, map, reverse, refl, ap, ◌∙◌, pow-suc, arith}
 use Rattle.fold.specs.Folding.{Leaf, Grid, over, fold, last, stack, piled}
 use Rattle.fold.specs.Walk.{Filling}
 use Rattle.fold.specs.Words.{Letters, columns_of, rows_of, count_w, count_n}

@@ -1,5 +1,5 @@
 -- A plan fills the sheets as the signature does.
-use Rattle.std.proofs.Common.{◌≡◌, ℕ, zero, suc, ◌+◌, ◌-◌, ◌*◌, ◌/◌, ◌%◌, ◌<◌, ◌≤◌, Bool, true, false, cond, ◌&&◌, List, [], ◌∷◌, ◌++◌, take, drop, Some, None, sym, refl, ap, ◌∙◌, ⊎_elim, mul_assoc, suc-mul, mul_comm, arith}
+use Rattle.std.proofs.Common.{◌≡◌, ℕ, zero, suc, ◌+◌, ◌-◌, ◌*◌, ◌/◌, ◌%◌, ◌<◌, ◌≤◌, Bool, true, false, List, ◌++◌, drop, Some, None, sym, refl, ap, ◌∙◌, ⊎_elim, mul_assoc, suc-mul, mul_comm, arith}
 use Rattle.std.proofs.lemmas.Nat.{div-add-mod', div-mul-add, mod-mul-add, mul-add-lt}
 use Rattle.std.proofs.lemmas.List.{take-append-drop}
 use Rattle.std.proofs.lemmas.Bool.{cases_eq, eqb-true, eq-eqb, and_parts, and_from}
@@ -16,8 +16,8 @@ use Rattle.pages.specs.declared.maps.Size.{Size}
 use Rattle.signature.specs.Imposing.{cells, position_map, sheet_of, side_of, signatures_before}
 use Rattle.signature.specs.Laws.{mark_of, side_number as sideAt}
 use Rattle.signature.proofs.Sides.{side_of_lem, signature_of, sheet_of_lem, numbered}
-use Rattle.plan.specs.Folds.{lies, first, mark_numbered, cell_of, filled, Planned, FoldsUp, PlansFold}
-use Rattle.plan.specs.Records.{record_of, record_at, records_of, plan_to, NamesLaid, RecordsName}
+use Rattle.plan.specs.Folds.{lies, first, mark_numbered, cell_of, filled, Planned, PlansFold}
+use Rattle.plan.specs.Records.{record_at, records_of, plan_to, RecordsName}
 use Rattle.plan.specs.declared.record.Record.{Record}
 use Rattle.plan.proofs.Alike.{Inside, fold_alike}
 use Rattle.plan.proofs.Firsts.{first_front, first_back, first_none, first_some}

@@ -1,11 +1,11 @@
 -- The records of sides 1 to n as a list.
-use Rattle.std.proofs.Common.{◌≡◌, ℕ, zero, suc, ◌+◌, ◌*◌, ◌<◌, ◌≤◌, List, [], ◌++◌, length, take, sym, refl, ap, ◌∙◌, ⊎_elim, mul-le-mul_right, suc-mul, zero-mul, add-one, arith, length-append}
+use Rattle.std.proofs.Common.{◌≡◌, ℕ, zero, suc, ◌+◌, ◌*◌, ◌≤◌, List, [], ◌++◌, length, take, sym, refl, ap, ◌∙◌, ⊎_elim, mul-le-mul_right, suc-mul, zero-mul, add-one, arith, length-append}
 use Rattle.std.proofs.lemmas.List.{take-append-le, take_all, take-take}
 use Rattle.std.proofs.lemmas.List.FromFn.{length-map-range_with_len}
 use Rattle.std.proofs.lemmas.Bool.{cases_eq}
 use Rattle.fold.specs.Words.{Letters}
 use Rattle.pages.specs.Splice.{splice}
-use Rattle.text.proofs.Splices.{take-splice, length-splice}
+use Rattle.text.proofs.Splices.{take-splice}
 use Rattle.signature.specs.Imposing.{cells}
 use Rattle.plan.specs.Folds.{Planned}
 use Rattle.plan.specs.Records.{record_at, records_of, plan_to}

@@ -1,8 +1,8 @@
 -- Records by their index, and the writing of them one after another.
-use Rattle.std.proofs.Common.{◌≡◌, ℕ, ◌+◌, ◌*◌, ◌/◌, ◌%◌, ◌<◌, ◌≤◌, Bool, true, false, cond, ◌&&◌, ltb, leb, List, [], ◌∷◌, ◌++◌, map, length, set, Some, None, Option, sym, refl, ap, ◌∙◌, subst, arith}
+use Rattle.std.proofs.Common.{◌≡◌, ℕ, ◌+◌, ◌/◌, ◌%◌, ◌<◌, ◌≤◌, Bool, true, false, cond, ◌&&◌, List, [], ◌∷◌, ◌++◌, map, length, set, Some, None, Option, sym, refl, ap, ◌∙◌, arith}
 use Rattle.std.specs.List.{range_with_len}
 use Rattle.std.proofs.lemmas.List.FromFn.{map-range_with_len_more}
-use Rattle.std.proofs.lemmas.Bool.{and_from, cond-true, cond-false, le-leb, lt-ltb}
+use Rattle.std.proofs.lemmas.Bool.{and_from, lt-ltb}
 use Rattle.fold.specs.Signatures.{letters_of}
 use Rattle.fold.specs.Walk.{from_1_to}
 use Rattle.fold.specs.Words.{columns_of, rows_of}
@@ -12,7 +12,7 @@ use Rattle.signature.proofs.Grids.{grid_at, row_below, column_below}
 use Rattle.signature.proofs.Positions.{within}
 use Rattle.text.specs.Writes.{Wrote}
 use Rattle.text.proofs.Splices.{wrote_one, wrote_as, and_then}
-use Rattle.plan.specs.Records.{is_side, position_record, record_at, record_in, record_of}
+use Rattle.plan.specs.Records.{is_side, position_record, record_at, record_in}
 use Rattle.plan.specs.declared.record.Record.{Record}
 
 -- ---- the record at an index is that of its row and column

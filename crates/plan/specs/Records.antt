@@ -1,5 +1,5 @@
 -- The records of the sides that signatures of k sheets make, folded by the word u.
-use Rattle.std.specs.Prelude.{◌≡◌, ℕ, zero, suc, ◌+◌, ◌*◌, ◌/◌, ◌%◌, ◌≤◌, Bool, cond, ◌&&◌, List, [], ◌∷◌, ◌++◌, map, length, Some, None, Option, nat_le, nat_lt}
+use Rattle.std.specs.Prelude.{◌≡◌, ℕ, zero, suc, ◌+◌, ◌/◌, ◌%◌, Bool, cond, ◌&&◌, List, [], ◌++◌, map, length, Some, None, Option, nat_le, nat_lt}
 use Rattle.std.specs.List.{range_with_len}
 use Rattle.fold.specs.Sheets.{side_number, mark_number}
 use Rattle.fold.specs.Walk.{laid, from_1_to}

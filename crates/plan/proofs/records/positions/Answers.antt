@@ -5,8 +5,8 @@ use Rattle.signature.specs.Imposing.{cells}
 use Rattle.signature.proofs.Grids.{grid_at}
 use Rattle.plan.proofs.records.positions.Goals as goal
 
-pub overflow-mul-result : goal.overflow-mul-result
-overflow-mul-result c = omega (arith, (grid_at c.args.signature.now c.rows-rows.result c.columns-columns.result c.rows-rows.ensures c.columns-columns.ensures).few.1)
+pub overflow_mul-result : goal.overflow_mul-result
+overflow_mul-result c = omega (arith, (grid_at c.args.signature.now c.rows-rows.result c.columns-columns.result c.rows-rows.ensures c.columns-columns.ensures).few.1)
 
 pub returns : goal.returns
 returns c =

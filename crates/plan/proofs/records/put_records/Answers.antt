@@ -15,7 +15,7 @@ loop-index-preserved c =
     let u = letters_of s in
     let p = c.args.side in
     let i = c.loop-index.index in
-    counted_more (record_at u s.sheets p) c.args.plan.now c.loop-index.plan c.args.at i c.in-ok-plan.field-0
+    counted_more (record_at u s.sheets p) c.args.plan.now c.loop-index.plan c.args.at i c.in_ok-plan.field-0
     (omega arith) (omega arith)
-    (answered (is_side p && ltb i (cells u)) c.in-ok-plan.field-0 (record_at u s.sheets p i) c.in-ok-plan.ensures)
+    (answered (is_side p && ltb i (cells u)) c.in_ok-plan.field-0 (record_at u s.sheets p i) c.in_ok-plan.ensures)
     c.loop-index.invariant

@@ -5,18 +5,18 @@ use Rattle.signature.proofs.Grids.{takes}
 use Rattle.signature.proofs.Positions.{cell_page}
 use Rattle.plan.proofs.records.record.Goals as goal
 
-pub pages-of-requires : goal.pages-of-requires
-pages-of-requires c =
-    let h = c.if-side-gt-MAX-PAGES.false in
+pub pages_of-requires : goal.pages_of-requires
+pages_of-requires c =
+    let h = c.if-side-gt-MAX_PAGES.false in
     let k = c.args.signature.now.thickness in
     let e = c.sheets-sheets.ensures in
     omega (arith, div-le_self ((c.args.side - 1) / 2) c.sheets-sheets.result, mod_below ((c.args.side - 1) / 2) c.sheets-sheets.result (omega arith))
 
-pub overflow-add-result-2 : goal.overflow-add-result-2
-overflow-add-result-2 c =
+pub overflow_add-result-2 : goal.overflow_add-result-2
+overflow_add-result-2 c =
     let s = c.args.signature.now in
     let k = s.thickness in
     let e = c.sheets-sheets.ensures in
     let f = mod_below ((c.args.side - 1) / 2) c.sheets-sheets.result (omega arith) in
-    let g = cell_page (letters_of s) s.sheets _ c.in-ok-cell.cell (omega arith) (omega arith) c.in-ok-cell.ensures in
-    omega (arith, (takes s).most, c.pages-of.ensures.few)
+    let g = cell_page (letters_of s) s.sheets _ c.in_ok-cell.cell (omega arith) (omega arith) c.in_ok-cell.ensures in
+    omega (arith, (takes s).most, c.pages_of.ensures.few)
