@@ -5,7 +5,6 @@ use Rattle.pages.specs.Limits.{max_ink}
 use Rattle.pages.specs.Meaning.{Meaning, Lawful, end_at, fault, length_at, pour_at, poured, written}
 use Rattle.pages.specs.declared.faults.Fault.{Fault}
 use Rattle.pages.specs.declared.faults.Refusal.TheVariants.{NoSuch, ShortBuffer}
-use Rattle.text.specs.Pieces.{place_after}
 use Rattle.sides.specs.Puts.{Put}
 use Rattle.sides.specs.Texts.{ink_of}
 use Rattle.sides.proofs.Puts.{put_as, put_whole}

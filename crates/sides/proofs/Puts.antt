@@ -1,10 +1,9 @@
 -- Texts put one after the other.
-use Rattle.std.proofs.Common.{◌≡◌, ℕ, ◌+◌, ◌<◌, ◌≤◌, Bool, true, false, cond, leb, List, [], ◌∷◌, ◌++◌, length, Some, None, Option, sym, refl, ap, ◌∙◌, subst, append_assoc, arith, length-append}
+use Rattle.std.proofs.Common.{◌≡◌, ℕ, ◌+◌, ◌<◌, ◌≤◌, Bool, true, false, cond, leb, List, [], ◌++◌, length, Some, None, Option, sym, refl, ap, ◌∙◌, subst, append_assoc, arith, length-append}
 use Rattle.std.proofs.lemmas.Bool.{cond-false, cond-true, le-leb, leb-false, leb-true, lt-leb}
 use Rattle.pages.specs.Meaning.{written}
 use Rattle.pages.specs.Splice.{splice}
 use Rattle.text.specs.Pieces.{place_after}
-use Rattle.text.specs.Writes.{Wrote}
 use Rattle.text.proofs.Splices.{and_then, length-splice, splice_none, splice_splice, wrote_none}
 use Rattle.sides.specs.Puts.{Begun, Put, Whole}
 

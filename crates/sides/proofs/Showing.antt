@@ -1,21 +1,19 @@
 -- The text of a side shows the placements of its positions.
-use Rattle.std.proofs.Common.{◌≡◌, ℕ, ◌+◌, ◌≤◌, Bool, true, false, cond, ◌&&◌, leb, List, [], ◌∷◌, ◌++◌, map, length, take, sym, refl, ap, ◌∙◌, arith, length-append}
+use Rattle.std.proofs.Common.{◌≡◌, ℕ, ◌≤◌, Bool, true, false, cond, leb, List, [], ◌∷◌, ◌++◌, map, length, sym, refl, ap, ◌∙◌, arith, length-append}
 use lib.ListN.{length-map}
 use Rattle.std.proofs.lemmas.List.{take_all}
 use Rattle.std.proofs.lemmas.Bool.{cond-true, le-leb}
 use Rattle.std.specs.List.{flat_map}
-use Rattle.fold.specs.Words.{Letters}
 use Rattle.pages.specs.Limits.{max_placements}
 use Rattle.pages.specs.Maps.{followed}
-use Rattle.pages.specs.Meaning.{Lawful, Meaning, all_sound, has, size_of, sound}
+use Rattle.pages.specs.Meaning.{Lawful, Meaning, all_sound, has, size_of}
 use Rattle.pages.specs.declared.maps.Map.{Map}
 use Rattle.pages.specs.declared.maps.Placement.{Placement}
 use Rattle.layers.specs.Layering.{Exact, Parts, all_below, exactly, followed_by, moved, part_exactly, part_shown, shown}
-use Rattle.layers.specs.declared.extent.Extent.{Extent}
 use Rattle.layers.specs.declared.parts.Part.{Part}
 use Rattle.signature.specs.Imposing.{positions, side_parts, sides_of}
 use Rattle.text.proofs.Joins.{joined-append}
-use Rattle.sides.specs.Laws.{Accepted, AsShown, SidesAsShown}
+use Rattle.sides.specs.Laws.{SidesAsShown}
 use Rattle.sides.specs.Texts.{block, block_of, blocks_of, ink_of, part_text, position_text, side_of_blocks}
 
 -- ---- the blocks of all parts are those of each, one after another

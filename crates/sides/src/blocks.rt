@@ -45,7 +45,7 @@ fn placing_length(map: Map) -> usize
 
 // How many bytes the ink of a leaf has; a leaf that there is not has none.
 pub(crate) fn ink_length<S: Source>(source: &S, leaf: u32) -> usize
-    ensures { (result ≡ length (ink_of (meaning source.now) leaf)) × (result ≤ max_ink) }
+    ensures { (result ≡ length (ink_of (S.meaning source.now) leaf)) × (result ≤ max_ink) }
 {
     match source.length(leaf) {
         Ok(n) => n as usize,
@@ -61,7 +61,7 @@ pub(crate) fn put_ink<S: Source>(
     at: usize,
 ) -> Option<usize>
     requires { at ≤ length buffer.old }
-    ensures { Put buffer.old at (ink_of (meaning source.now) leaf) buffer.new result }
+    ensures { Put buffer.old at (ink_of (S.meaning source.now) leaf) buffer.new result }
 {
     if source.leaves() < leaf {
         return Some(at);
@@ -74,7 +74,7 @@ pub(crate) fn put_ink<S: Source>(
 
 // How many bytes the block of a placement has.
 pub(crate) fn block_length<S: Source>(source: &S, placement: Placement) -> usize
-    ensures { (result ≡ length (block_of (meaning source.now) placement)) × (result ≤ max_block) }
+    ensures { (result ≡ length (block_of (S.meaning source.now) placement)) × (result ≤ max_block) }
 {
     placing_length(placement.map) + ink_length(source, placement.leaf) + RESTORE.len()
 }
@@ -86,7 +86,7 @@ pub(crate) fn put_block<S: Source>(
     buffer: &mut [u8],
     at: usize,
 ) -> Option<usize>
-    ensures { Put buffer.old at (block_of (meaning source.now) placement) buffer.new result }
+    ensures { Put buffer.old at (block_of (S.meaning source.now) placement) buffer.new result }
 {
     let Some(placed) = put(buffer, at, &placing(placement.map)) else {
         return None;

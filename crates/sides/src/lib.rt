@@ -1,4 +1,5 @@
 //! The text of a printed book: its opening, its sides and its ending, byte for byte, written into a lent buffer.
+#![tactic(auto)]
 
 mod blocks;
 mod laws;

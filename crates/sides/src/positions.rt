@@ -24,7 +24,7 @@ fn moved(placement: Placement, map: Map) -> Placement
 
 // The placement in a slot of a position, followed by the position's map.
 fn shown<S: Source>(below: &S, position: &Part, slot: u32) -> Option<Placement>
-    ensures { result ≡ slot_at (part_shown (meaning below.now) position.now) slot }
+    ensures { result ≡ slot_at (part_shown (S.meaning below.now) position.now) slot }
 {
     match below.place(position.page, slot) {
         Ok(placement) => Some(moved(placement, position.map)),
@@ -34,7 +34,7 @@ fn shown<S: Source>(below: &S, position: &Part, slot: u32) -> Option<Placement>
 
 /// How many bytes the text of a position has.
 pub fn position_length<S: Source>(below: &S, position: &Part) -> usize
-    ensures all { result ≡ length (part_text (meaning below.now) position.now) }
+    ensures all { result ≡ length (part_text (S.meaning below.now) position.now) }
     ensures few { result ≤ max_position }
 {
     let mut total = 0;
@@ -55,7 +55,7 @@ pub(crate) fn put_position<S: Source>(
     at: usize,
 ) -> Option<usize>
     requires { at ≤ length buffer.old }
-    ensures { Put buffer.old at (part_text (meaning below.now) position.now) buffer.new result }
+    ensures { Put buffer.old at (part_text (S.meaning below.now) position.now) buffer.new result }
 {
     let mut end = at;
     for slot in 0..MAX_PLACEMENTS {

@@ -54,7 +54,7 @@ pub fn put_side<S: Source>(
     positions: &[Part],
     buffer: &mut [u8],
 ) -> Option<usize>
-    ensures { Put buffer.old 0 (parts_text (meaning below.now) side positions.now) buffer.new result }
+    ensures { Put buffer.old 0 (parts_text (S.meaning below.now) side positions.now) buffer.new result }
 {
     let Some(start) = put(buffer, 0, &page_line(side)) else {
         return None;
@@ -86,14 +86,14 @@ fn head(size: Size, sides: u32) -> [Piece<'static>; 7]
 
 // Those of a book whose sides are the pages of a source.
 fn head_of<S: Source>(source: &S) -> [Piece<'static>; 7]
-    ensures { spelled_all result ≡ head_text (meaning source.now).width (meaning source.now).height (meaning source.now).pages }
+    ensures { spelled_all result ≡ head_text (S.meaning source.now).width (S.meaning source.now).height (S.meaning source.now).pages }
 {
     head(source.size(), source.pages())
 }
 
 /// How many bytes the opening of a book has whose sides are the pages of a source.
 pub fn opening_length<S: Source>(source: &S) -> usize
-    ensures all { result ≡ length (opening_of (meaning source.now)) }
+    ensures all { result ≡ length (opening_of (S.meaning source.now)) }
     ensures few { result ≤ max_block }
 {
     measure(&head_of(source)) + ink_length(source, 0)
@@ -102,8 +102,8 @@ pub fn opening_length<S: Source>(source: &S) -> usize
 /// Writes the opening of a book whose sides are the pages of a source at the buffer's start, and answers its length. An
 /// opening that does not fit is not begun.
 pub fn opening<S: Source>(source: &S, buffer: &mut [u8]) -> Option<usize>
-    ensures answer { result ≡ place_after (opening_of (meaning source.now)) (length buffer.old) 0 }
-    ensures after { buffer.new ≡ written (opening_of (meaning source.now)) buffer.old 0 }
+    ensures answer { result ≡ place_after (opening_of (S.meaning source.now)) (length buffer.old) 0 }
+    ensures after { buffer.new ≡ written (opening_of (S.meaning source.now)) buffer.old 0 }
 {
     if buffer.len() < opening_length(source) {
         return None;

@@ -7,4 +7,4 @@ pub returns : goal.returns
 returns g c =
     let p = c.args.placement in
     let l = length-block p.map (ink_of (g.S.Source.meaning c.args.source.now) p.leaf) in
-    (omega (arith, c.placing-length.ensures.0, c.ink-length.ensures.0), omega (arith, c.placing-length.ensures.1, c.ink-length.ensures.1))
+    (omega (arith, c.placing_length.ensures.0, c.ink_length.ensures.0), omega (arith, c.placing_length.ensures.1, c.ink_length.ensures.1))

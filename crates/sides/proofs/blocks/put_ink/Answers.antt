@@ -1,5 +1,4 @@
-use Rattle.std.proofs.Common.{◌<◌, ◌≤◌, sym, arith}
-use Rattle.sides.specs.Texts.{ink_of}
+use Rattle.std.proofs.Common.{sym, arith}
 use Rattle.sides.proofs.Inks.{no_ink, pour_none, pour_some}
 use Rattle.sides.proofs.Puts.{whole_as, whole_none}
 use Rattle.sides.proofs.blocks.put_ink.Goals as goal

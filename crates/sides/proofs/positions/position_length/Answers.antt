@@ -1,19 +1,19 @@
-use Rattle.std.proofs.Common.{◌≡◌, length, refl, ap, arith}
+use Rattle.std.proofs.Common.{length, ap, arith}
 use Rattle.layers.specs.Layering.{part_shown}
 use Rattle.sides.proofs.Steps.{blocks_none, blocks_past, length_more}
 use Rattle.sides.proofs.positions.position_length.Goals as goal
 
-pub returns-in-default : goal.returns-in-default
-returns-in-default g c =
+pub returns-in_default : goal.returns-in_default
+returns-in_default g c =
     let m = g.S.Source.meaning c.args.below.now in
-    let e = ap length (blocks_none m (part_shown m c.args.position.now) c.loop-slot.slot c.in-default.ensures) in
+    let e = ap length (blocks_none m (part_shown m c.args.position.now) c.loop-slot.slot c.in_default.ensures) in
     record { all = omega (arith, c.loop-slot.invariant.0); few = omega (arith, c.loop-slot.invariant.1, c.loop-slot-test.true) }
 
 pub loop-slot-preserved : goal.loop-slot-preserved
 loop-slot-preserved g c =
     let m = g.S.Source.meaning c.args.below.now in
     let e = length_more m (part_shown m c.args.position.now) c.loop-slot.slot c.in-Some.placement c.in-Some.ensures in
-    (omega (arith, c.loop-slot.invariant.0, c.block-length-total.ensures.0), omega (arith, c.loop-slot.invariant.1, c.block-length-total.ensures.1))
+    (omega (arith, c.loop-slot.invariant.0, c.block_length-total.ensures.0), omega (arith, c.loop-slot.invariant.1, c.block_length-total.ensures.1))
 
 pub returns : goal.returns
 returns g c =

@@ -10,12 +10,12 @@ use Rattle.sides.proofs.positions.put_position.Goals.{In-Some}
 pub loop-slot-init : goal.loop-slot-init
 loop-slot-init g c = ([], whole_none c.args.buffer.now c.args.at c.requires, refl)
 
-pub returns-in-default : goal.returns-in-default
-returns-in-default g c =
+pub returns-in_default : goal.returns-in_default
+returns-in_default g c =
     let m = g.S.Source.meaning c.args.below.now in
     let ps = part_shown m c.args.position.now in
     let xs = c.loop-slot.invariant.0 in
-    whole_as (blocks_of m ps) (sym (append-nil xs) ∙ ap (λ e. xs ++ e) (sym (blocks_none m ps c.loop-slot.slot c.in-default.ensures)) ∙ c.loop-slot.invariant.2) c.loop-slot.invariant.1
+    whole_as (blocks_of m ps) (sym (append-nil xs) ∙ ap (λ e. xs ++ e) (sym (blocks_none m ps c.loop-slot.slot c.in_default.ensures)) ∙ c.loop-slot.invariant.2) c.loop-slot.invariant.1
 
 -- what is written with the next block, and what is left
 nexts : (g : given.Over) (c : In-Some g) →
@@ -29,17 +29,17 @@ nexts g c =
     append_assoc xs (block_of m c.in-Some.placement) (blocks_of m (drop (c.loop-slot.slot + 1) ps))
     ∙ ap (λ e. xs ++ e) (sym (blocks_more m ps c.loop-slot.slot c.in-Some.placement c.in-Some.ensures)) ∙ c.loop-slot.invariant.2
 
-pub returns-in-default-put-block : goal.returns-in-default-put-block
-returns-in-default-put-block g c =
+pub returns-in_default-put_block : goal.returns-in_default-put_block
+returns-in_default-put_block g c =
     let m = g.S.Source.meaning c.args.below.now in
     let ps = part_shown m c.args.position.now in
-    begun_as (blocks_of m ps) (nexts g (goal.at.returns-in-default-put-block g c).In-Some) (begun_more (blocks_of m (drop (c.loop-slot.slot + 1) ps)) (whole_begun c.loop-slot.invariant.1 c.in-default-put-block.ensures))
+    begun_as (blocks_of m ps) (nexts g (goal.at.returns-in_default-put_block g c).In-Some) (begun_more (blocks_of m (drop (c.loop-slot.slot + 1) ps)) (whole_begun c.loop-slot.invariant.1 c.in_default-put_block.ensures))
 
 pub loop-slot-preserved : goal.loop-slot-preserved
 loop-slot-preserved g c =
     let m = g.S.Source.meaning c.args.below.now in (
       c.loop-slot.invariant.0 ++ block_of m c.in-Some.placement,
-      whole_then c.loop-slot.invariant.1 c.in-Some-put-block.ensures,
+      whole_then c.loop-slot.invariant.1 c.in-Some-put_block.ensures,
       nexts g (goal.at.loop-slot-preserved g c).In-Some,
     )
 

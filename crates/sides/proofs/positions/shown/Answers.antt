@@ -1,4 +1,4 @@
-use Rattle.std.proofs.Common.{◌≡◌, Some, ap, ◌∙◌}
+use Rattle.std.proofs.Common.{Some, ap, ◌∙◌}
 use Rattle.pages.specs.declared.maps.Placement.{Placement}
 use Rattle.layers.specs.Showing.{part_placed, part_unplaced}
 use Rattle.sides.proofs.positions.shown.Goals as goal
