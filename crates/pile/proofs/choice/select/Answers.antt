@@ -7,7 +7,7 @@ pub returns-in-Ok : goal.returns-in-Ok
 returns-in-Ok g c =
     let m = g.S.Source.meaning c.args.below.now in
     let o = c.in-Ok.ensures in
-    let same = c.ranges-so-far-rule.ensures in (
+    let same = c.ranges_so_far-rule.ensures in (
       subst (λ rs. select_objects rs c.args.order m ≡ None) same o.0,
       (c.in-Ok.plan.rule, refl, subst (λ rs. SelectTaken rs c.args.order m (given_by c.in-Ok.plan.rule) c.in-Ok.plan.extent) same o.1),
     )
