@@ -49,14 +49,14 @@ fn shown(entry: Record) -> Cell
 impl<S: Source> Job<S> {
     // A refusal of the job itself.
     fn refused(&self, kind: Refusal, page: u32) -> Fault
-        ensures { result ≡ fault kind (job_depth (book_in meaning self.now.layer)) page }
+        ensures { result ≡ fault kind (job_depth (book_in S.meaning self.now.layer)) page }
     {
         Fault::new(kind, self.layer.depth().saturating_add(1), page)
     }
 
     // How many bytes the text of a side has. Its positions are taken into a list, and their lengths are added up.
     fn side_length(&self, side: u32) -> usize
-        ensures all { result ≡ length (side_printed (book_in meaning self.now.layer) side) }
+        ensures all { result ≡ length (side_printed (book_in S.meaning self.now.layer) side) }
         ensures few { result ≤ max_side }
     {
         let mut places = [NOWHERE; MAX_POSITIONS];
@@ -72,7 +72,7 @@ impl<S: Source> Job<S> {
     // Why the next side is not printed, if it is not, into a buffer of `room` bytes and a plan of `list` records. The length
     // of all its text is added up before anything is written.
     fn objection(&self, room: usize, list: usize) -> Option<Refusal>
-        ensures { result ≡ print_refusal (book_in meaning self.now.layer) self.now.printed room list }
+        ensures { result ≡ print_refusal (book_in S.meaning self.now.layer) self.now.printed room list }
     {
         let Some(signature) = self.layer.rule().signature() else {
             return Some(Refusal::Finished);
@@ -92,10 +92,10 @@ impl<S: Source> Job<S> {
 
     // Writes the text and the records of the next side, to which there is no objection, and answers the text's length.
     fn put_next(&self, buffer: &mut [u8], plan: &mut [Record]) -> usize
-        requires { print_refusal (book_in meaning self.now.layer) self.now.printed (length buffer.old) (length plan.old) ≡ None }
-        ensures answer { result ≡ length (side_printed (book_in meaning self.now.layer) (self.now.printed + 1)) }
-        ensures text { buffer.new ≡ splice buffer.old 0 (side_printed (book_in meaning self.now.layer) (self.now.printed + 1)) }
-        ensures records { plan.new ≡ splice plan.old (self.now.printed * per_side (book_in meaning self.now.layer)) (side_records (book_in meaning self.now.layer) (self.now.printed + 1)) }
+        requires { print_refusal (book_in S.meaning self.now.layer) self.now.printed (length buffer.old) (length plan.old) ≡ None }
+        ensures answer { result ≡ length (side_printed (book_in S.meaning self.now.layer) (self.now.printed + 1)) }
+        ensures text { buffer.new ≡ splice buffer.old 0 (side_printed (book_in S.meaning self.now.layer) (self.now.printed + 1)) }
+        ensures records { plan.new ≡ splice plan.old (self.now.printed * per_side (book_in S.meaning self.now.layer)) (side_records (book_in S.meaning self.now.layer) (self.now.printed + 1)) }
     {
         let Some(signature) = self.layer.rule().signature() else {
             unreachable();
@@ -115,7 +115,7 @@ impl<S: Source> Job<S> {
 
     /// How many sides there are to print: none before the layer's first order.
     pub fn sides(&self) -> u32
-        ensures { result ≡ sides (book_in meaning self.now.layer) }
+        ensures { result ≡ sides (book_in S.meaning self.now.layer) }
     {
         match self.layer.rule().signature() {
             Some(_) => self.layer.pages(),
@@ -125,7 +125,7 @@ impl<S: Source> Job<S> {
 
     /// How many records the plan of the whole book has: one for each position of each side.
     pub fn plan_length(&self) -> usize
-        ensures { result ≡ sides (book_in meaning self.now.layer) * per_side (book_in meaning self.now.layer) }
+        ensures { result ≡ sides (book_in S.meaning self.now.layer) * per_side (book_in S.meaning self.now.layer) }
     {
         match self.layer.rule().signature() {
             Some(signature) => self.layer.pages() as usize * positions(&signature) as usize,
@@ -136,7 +136,7 @@ impl<S: Source> Job<S> {
     /// How many bytes the longest text of the book has, be it the opening, a side or the ending: a buffer of so many bytes
     /// has room for each.
     pub fn room(&self) -> usize
-        ensures { result ≡ longest (book_in meaning self.now.layer) (sides (book_in meaning self.now.layer)) }
+        ensures { result ≡ longest (book_in S.meaning self.now.layer) (sides (book_in S.meaning self.now.layer)) }
     {
         let mut most = opening_length(&self.layer).max(ending_length());
         for i in 0..self.sides() {
@@ -149,10 +149,10 @@ impl<S: Source> Job<S> {
     /// before, and answers the length of the text. A refusal alters nothing.
     pub fn print(&mut self, buffer: &mut [u8], plan: &mut [Record]) -> Result<usize, Fault>
         ensures same { self.new.layer ≡ self.old.layer }
-        ensures count { self.new.printed ≡ (printing (book_in meaning self.old.layer) self.old.printed buffer.old plan.old).count }
-        ensures answer { result ≡ (printing (book_in meaning self.old.layer) self.old.printed buffer.old plan.old).answer }
-        ensures text { buffer.new ≡ (printing (book_in meaning self.old.layer) self.old.printed buffer.old plan.old).buffer }
-        ensures records { plan.new ≡ (printing (book_in meaning self.old.layer) self.old.printed buffer.old plan.old).plan }
+        ensures count { self.new.printed ≡ (printing (book_in S.meaning self.old.layer) self.old.printed buffer.old plan.old).count }
+        ensures answer { result ≡ (printing (book_in S.meaning self.old.layer) self.old.printed buffer.old plan.old).answer }
+        ensures text { buffer.new ≡ (printing (book_in S.meaning self.old.layer) self.old.printed buffer.old plan.old).buffer }
+        ensures records { plan.new ≡ (printing (book_in S.meaning self.old.layer) self.old.printed buffer.old plan.old).plan }
     {
         if let Some(kind) = self.objection(buffer.len(), plan.len()) {
             return Err(self.refused(kind, 0));
@@ -169,7 +169,7 @@ impl<S: Source> Job<S> {
         ensures answer { MatchResult result
             (λ _. pullable self.old.printed side ≡ true)
             (λ f. (pullable self.old.printed side ≡ false)
-            × (f ≡ fault NoSuch (job_depth (book_in meaning self.old.layer)) side)) }
+            × (f ≡ fault NoSuch (job_depth (book_in S.meaning self.old.layer)) side)) }
     {
         if side == 0 || self.printed < side - 1 {
             return Err(self.refused(Refusal::NoSuch, side));
@@ -180,15 +180,15 @@ impl<S: Source> Job<S> {
 
     /// Writes what opens the book at the buffer's start, and answers its length.
     pub fn opening(&self, buffer: &mut [u8]) -> Result<usize, Fault>
-        ensures answer { result ≡ start_answer (book_in meaning self.now.layer) (opening_of (sheets (book_in meaning self.now.layer))) (length buffer.old) }
-        ensures after { buffer.new ≡ written (opening_of (sheets (book_in meaning self.now.layer))) buffer.old 0 }
+        ensures answer { result ≡ start_answer (book_in S.meaning self.now.layer) (opening_of (sheets (book_in S.meaning self.now.layer))) (length buffer.old) }
+        ensures after { buffer.new ≡ written (opening_of (sheets (book_in S.meaning self.now.layer))) buffer.old 0 }
     {
         sides::opening(&self.layer, buffer).ok_or(self.refused(Refusal::ShortBuffer, 0))
     }
 
     /// Writes what ends the book at the buffer's start, and answers its length.
     pub fn ending(&self, buffer: &mut [u8]) -> Result<usize, Fault>
-        ensures answer { result ≡ start_answer (book_in meaning self.now.layer) ending_text (length buffer.old) }
+        ensures answer { result ≡ start_answer (book_in S.meaning self.now.layer) ending_text (length buffer.old) }
         ensures after { buffer.new ≡ written ending_text buffer.old 0 }
     {
         sides::ending(buffer).ok_or(self.refused(Refusal::ShortBuffer, 0))
@@ -196,7 +196,7 @@ impl<S: Source> Job<S> {
 
     /// The page and mark at a position of a side.
     pub fn cell(&self, side: u32, row: u32, column: u32) -> Result<Cell, Fault>
-        ensures { result ≡ cell_at (book_in meaning self.now.layer) side row column }
+        ensures { result ≡ cell_at (book_in S.meaning self.now.layer) side row column }
     {
         let missing = self.refused(Refusal::NoSuch, side);
         let Some(signature) = self.layer.rule().signature() else {

@@ -1,4 +1,5 @@
 //! The job: prints the sides of a Signature layer, one call at a time.
+#![tactic(auto)]
 
 mod calls;
 mod job;

@@ -14,7 +14,7 @@ pub(crate) const MAX_POSITIONS: usize = 16;
 /// Takes the positions of a side into a list, and answers how many there are.
 pub(crate) fn gather<S: Source>(layer: &Sheets<S>, side: u32, list: &mut [Part]) -> usize
     requires { length list.old ≡ 16 }
-    ensures all { take result list.new ≡ impose_shows layer.now.rule.signature (meaning layer.now.below) side }
+    ensures all { take result list.new ≡ impose_shows layer.now.rule.signature (S.meaning layer.now.below) side }
     ensures few { result ≤ 16 }
 {
     for index in 0..MAX_POSITIONS {

@@ -12,57 +12,57 @@ use pages::sources::Source;
 impl<S: Source> Job<S> {
     /// The size of every side.
     pub fn size(&self) -> Size
-        ensures { result ≡ size_of (sheets (book_in meaning self.now.layer)) }
+        ensures { result ≡ size_of (sheets (book_in S.meaning self.now.layer)) }
     {
         self.layer.size()
     }
 
     /// How many leaves there are besides the preamble, leaf 0.
     pub fn leaves(&self) -> u32
-        ensures { result ≡ (sheets (book_in meaning self.now.layer)).leaves }
+        ensures { result ≡ (sheets (book_in S.meaning self.now.layer)).leaves }
     {
         self.layer.leaves()
     }
 
     /// How many sides there are.
     pub fn pages(&self) -> u32
-        ensures { result ≡ (sheets (book_in meaning self.now.layer)).pages }
+        ensures { result ≡ (sheets (book_in S.meaning self.now.layer)).pages }
     {
         self.layer.pages()
     }
 
     /// The depth of the Signature layer.
     pub fn depth(&self) -> u8
-        ensures { result ≡ (sheets (book_in meaning self.now.layer)).depth }
+        ensures { result ≡ (sheets (book_in S.meaning self.now.layer)).depth }
     {
         self.layer.depth()
     }
 
     /// How many placements a side has.
     pub fn laid(&self, page: u32) -> Result<u32, Fault>
-        ensures { result ≡ laid_at (sheets (book_in meaning self.now.layer)) page }
+        ensures { result ≡ laid_at (sheets (book_in S.meaning self.now.layer)) page }
     {
         self.layer.laid(page)
     }
 
     /// The placement in a slot of a side; slots count from 1.
     pub fn place(&self, page: u32, slot: u32) -> Result<Placement, Fault>
-        ensures { result ≡ place_at (sheets (book_in meaning self.now.layer)) page slot }
+        ensures { result ≡ place_at (sheets (book_in S.meaning self.now.layer)) page slot }
     {
         self.layer.place(page, slot)
     }
 
     /// How many bytes a leaf's ink has.
     pub fn length(&self, leaf: u32) -> Result<u32, Fault>
-        ensures { result ≡ length_at (sheets (book_in meaning self.now.layer)) leaf }
+        ensures { result ≡ length_at (sheets (book_in S.meaning self.now.layer)) leaf }
     {
         self.layer.length(leaf)
     }
 
     /// Writes a leaf's ink, and nothing else, into the buffer from byte `at` on, and answers the place after it.
     pub fn pour(&self, leaf: u32, buffer: &mut [u8], at: usize) -> Result<usize, Fault>
-        ensures answer { result ≡ pour_at (sheets (book_in meaning self.now.layer)) leaf (length buffer.old) at }
-        ensures after { buffer.new ≡ poured (sheets (book_in meaning self.now.layer)) leaf buffer.old at }
+        ensures answer { result ≡ pour_at (sheets (book_in S.meaning self.now.layer)) leaf (length buffer.old) at }
+        ensures after { buffer.new ≡ poured (sheets (book_in S.meaning self.now.layer)) leaf buffer.old at }
     {
         self.layer.pour(leaf, buffer, at)
     }

@@ -1,4 +1,4 @@
-use Rattle.std.proofs.Common.{◌≡◌, ℕ, length, take, sym, refl, ap, ◌∙◌, arith}
+use Rattle.std.proofs.Common.{◌≡◌, ℕ, take, sym, ap, ◌∙◌, arith}
 use Rattle.std.proofs.lemmas.List.{take_all}
 use Rattle.std.specs.List.{slice_get}
 use Rattle.layers.specs.Layering.{Parts}
@@ -17,11 +17,11 @@ asked g c =
     ap (λ (r : Imposition). impose_shows r.signature (g.S.Source.meaning c.covered.result.now) c.args.side) c.rule.ensures
     ∙ ap (λ b. impose_shows c.args.layer.now.rule.signature (g.S.Source.meaning b) c.args.side) c.covered.ensures
 
-pub returns-in-default : goal.returns-in-default
-returns-in-default g c =
-    let e = asked g (goal.at.returns-in-default g c).After-part in
+pub returns-in_default : goal.returns-in_default
+returns-in_default g c =
+    let e = asked g (goal.at.returns-in_default g c).After-part in
     record {
-      all = c.loop-index.invariant ∙ gathered_all _ c.loop-index.index (sym (c.in-default.ensures ∙ ap (λ (xs : Parts). slice_get xs c.loop-index.index) e));
+      all = c.loop-index.invariant ∙ gathered_all _ c.loop-index.index (sym (c.in_default.ensures ∙ ap (λ (xs : Parts). slice_get xs c.loop-index.index) e));
       few = omega (arith, c.loop-index-test.true);
     }
 

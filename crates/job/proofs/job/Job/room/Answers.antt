@@ -9,5 +9,5 @@ more b i most len r e f h =
 
 pub loop-i-preserved : goal.loop-i-preserved
 loop-i-preserved g c =
-    more (book_in g.S.Source.meaning c.args.self.now.layer) c.loop-i.i c.loop-i.most c.side-length.result c.max-most-in-loop-i.result
-    c.loop-i.invariant c.side-length.ensures.all c.max-most-in-loop-i.ensures
+    more (book_in g.S.Source.meaning c.args.self.now.layer) c.loop-i.i c.loop-i.most c.side_length.result c.max-most-in-loop-i.result
+    c.loop-i.invariant c.side_length.ensures.all c.max-most-in-loop-i.ensures
