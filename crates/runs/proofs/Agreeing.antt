@@ -1,34 +1,33 @@
 -- A layer whose order was accepted prints the book of the rules.
-use Rattle.std.proofs.Common.{◌≡◌, ℕ, zero, suc, ◌+◌, ◌*◌, ◌<◌, ◌≤◌, min, Bool, true, false, cond, ◌&&◌, ltb, leb, ◌⊎◌, List, [], ◌∷◌, ◌++◌, length, take, drop, Some, None, Ok, Err, Option, Result, sym, refl, ap, ◌∙◌, subst, inl, inr, ⊎_elim, append_assoc, zero-mul, arith}
+use Rattle.std.proofs.Common.{◌≡◌, ℕ, zero, suc, ◌+◌, ◌*◌, ◌<◌, ◌≤◌, min, Bool, true, false, cond, ◌&&◌, ltb, leb, List, [], ◌∷◌, ◌++◌, length, take, drop, Some, None, Ok, Err, Option, sym, refl, ap, ◌∙◌, ⊎_elim, append_assoc, arith}
 use Rattle.std.specs.Option.{option_map, ok_or}
-use Rattle.std.proofs.lemmas.List.{take_at, take-append-le, take_all}
+use Rattle.std.proofs.lemmas.List.{take_at}
 use Rattle.std.proofs.lemmas.Bool.{cases_lt, and_parts, le-leb, leb-true, cond-true}
 use Rattle.fold.specs.Signatures.{letters_of}
 use Rattle.fold.specs.Words.{Letters}
 use Rattle.fold.specs.declared.signature.Signature.{Signature}
 use Rattle.pages.specs.Limits.{max_placements}
-use Rattle.pages.specs.Meaning.{Meaning, Lawful, fault, has, laid_at, place_at, size_of, slot_at}
+use Rattle.pages.specs.Meaning.{Meaning, Lawful, fault, laid_at, place_at, size_of, slot_at}
 use Rattle.pages.specs.declared.faults.Fault.{Fault}
 use Rattle.pages.specs.declared.faults.Refusal.TheVariants.{Finished, NoSuch, ShortBuffer, ShortPlan}
 use Rattle.pages.specs.declared.maps.Placement.{Placement}
 use Rattle.pages.specs.declared.maps.Size.{Size as Dimensions}
-use Rattle.layers.specs.Layering.{Below, Exact, deeper, exactly, layered, shown}
+use Rattle.layers.specs.Layering.{deeper, exactly, layered, shown}
 use Rattle.layers.specs.declared.extent.Extent.{Extent}
-use Rattle.signature.specs.Imposing.{cells, impose_shows, side_parts, side_size, sides_of}
+use Rattle.signature.specs.Imposing.{cells, side_parts, side_size, sides_of}
 use Rattle.sides.specs.Laws.{Accepted}
 use Rattle.sides.specs.Texts.{blocks_of, ending_text, head_text, opening_of, parts_text, side_of_blocks, side_text}
 use Rattle.sides.proofs.Showing.{sides_as_shown}
 use Rattle.job.specs.Calls.{shown_by}
-use Rattle.plan.specs.Folds.{FoldsUp, Planned}
+use Rattle.plan.specs.Folds.{Planned}
 use Rattle.plan.specs.Records.{plan_to, position_record, records_of}
 use Rattle.plan.specs.declared.record.Record.{Record}
 use Rattle.plan.proofs.Fillings.{plans_fold}
 use Rattle.plan.proofs.Plans.{length-records}
-use Rattle.runs.specs.Books.{Book, depth_of, plan_of, print_refusal}
-use Rattle.runs.specs.History.{Event, Answered, Stands, count, last_text, reach}
+use Rattle.runs.specs.Books.{Book, depth_of, plan_of}
+use Rattle.runs.specs.History.{Event, Answered, Stands, count, reach}
 use Rattle.runs.specs.Law.{Law, book_of, sheets_over}
-use Rattle.runs.specs.Replies.{Reply, reply, reply_by, reply_to, print_reply, text_reply}
-use Rattle.runs.specs.declared.calls.Answer.{Answer}
+use Rattle.runs.specs.Replies.{reply, reply_by, reply_to, print_reply, text_reply}
 use Rattle.runs.specs.declared.calls.Answer.TheVariants.{Opened, Measured, Number, Placed, Shown}
 use Rattle.runs.specs.declared.calls.Call.{Call}
 use Rattle.runs.specs.declared.calls.Call.TheVariants.{Print, PullBack, Opening, Ending, HowFar, Cell, Size, Leaves, Pages, Depth, Laid, Place, Length, Pour}

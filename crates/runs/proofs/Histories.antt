@@ -1,6 +1,6 @@
 -- Each call keeps what stands.
-use Rattle.std.proofs.Common.{◌≡◌, ℕ, zero, suc, ◌+◌, ◌-◌, ◌*◌, ◌<◌, ◌≤◌, min, max, Bool, true, false, cond, ◌&&◌, eqb, leb, ◌⊎◌, List, [], ◌∷◌, ◌++◌, length, drop, Some, None, Ok, Err, Option, Result, sym, refl, ap, ◌∙◌, subst, inl, inr, ⊎_elim, zero-mul, arith}
-use Rattle.std.proofs.lemmas.Bool.{cases_eq, cases_Bool, cases_lt, and_parts, leb-true, eqb-true, cond-true, cond-false}
+use Rattle.std.proofs.Common.{◌≡◌, ℕ, ◌+◌, ◌-◌, ◌*◌, ◌<◌, ◌≤◌, min, max, Bool, true, false, cond, ◌&&◌, eqb, leb, ◌⊎◌, List, [], ◌∷◌, ◌++◌, length, drop, Some, None, Ok, Err, Option, Result, sym, refl, ap, ◌∙◌, subst, inl, inr, ⊎_elim, zero-mul, arith}
+use Rattle.std.proofs.lemmas.Bool.{cases_eq, cases_lt, and_parts, leb-true, cond-true, cond-false}
 use Rattle.std.proofs.lemmas.Bool.Decides.{nat_tests}
 use Rattle.fold.specs.Walk.{from_1_to}
 use Rattle.pages.specs.Meaning.{fault, laid_at, place_at, length_at, pour_at}
@@ -8,14 +8,14 @@ use Rattle.pages.specs.Splice.{splice}
 use Rattle.pages.specs.declared.faults.Fault.{Fault}
 use Rattle.pages.specs.declared.faults.Refusal.TheVariants.{NoSuch, ShortBuffer}
 use Rattle.plan.specs.declared.record.Record.{Record}
-use Rattle.runs.specs.Books.{Book, depth_of, plan_of, print_refusal, pull_back, cell_at}
-use Rattle.runs.specs.History.{Event, event, count, reach, last_text, Answered, buffer_after, calls_of, Performed, Stands}
-use Rattle.runs.specs.Replies.{Reply, reply, reply_by, reply_to, print_reply, pull_reply, text_reply, pour_reply, after, is_print, start_of}
+use Rattle.runs.specs.Books.{Book, depth_of, plan_of, print_refusal, cell_at}
+use Rattle.runs.specs.History.{Event, event, count, reach, last_text, Performed, Stands}
+use Rattle.runs.specs.Replies.{Reply, reply, reply_by, reply_to, print_reply, pull_reply, pour_reply, after, is_print, start_of}
 use Rattle.runs.specs.declared.calls.Answer.{Answer}
-use Rattle.runs.specs.declared.calls.Answer.TheVariants.{Printed, PulledBack, Opened, Ended, Counted, Shown, Measured, Number, Placed, Poured, Refused}
+use Rattle.runs.specs.declared.calls.Answer.TheVariants.{Printed, PulledBack, Opened, Ended, Shown, Number, Placed, Refused}
 use Rattle.runs.specs.declared.calls.Call.{Call}
 use Rattle.runs.specs.declared.calls.Call.TheVariants.{Print, PullBack, Opening, Ending, HowFar, Cell, Size, Leaves, Pages, Depth, Laid, Place, Length, Pour}
-use Rattle.runs.proofs.Performing.{Quiet, Room, accepted}
+use Rattle.runs.proofs.Performing.{Quiet, accepted}
 use Rattle.runs.proofs.Planning.{max-left, plan_printed}
 
 -- ---- the three kinds of replies

@@ -1,10 +1,10 @@
 -- Lists of calls keep what stands.
-use Rattle.std.proofs.Common.{◌≡◌, ℕ, ◌+◌, ◌<◌, ◌≤◌, List, [], ◌∷◌, ◌++◌, length, get_or, take, drop, Ok, Err, Result, sym, refl, ap, ◌∙◌, subst}
+use Rattle.std.proofs.Common.{◌≡◌, ℕ, ◌+◌, ◌<◌, List, [], ◌∷◌, ◌++◌, length, get_or, take, drop, Ok, Err, Result, sym, refl, ap, ◌∙◌, subst}
 use Rattle.std.proofs.lemmas.List.{take_more, append_assoc, append-nil, drop_more, take-append-drop}
 use Rattle.plan.specs.declared.record.Record.{Record}
 use Rattle.runs.specs.Books.{Book}
-use Rattle.runs.specs.History.{Event, Stands, calls_of}
-use Rattle.runs.specs.Logs.{event_of, backwards, Noted, Kept, Whole, Broken, Carried}
+use Rattle.runs.specs.History.{Event, calls_of}
+use Rattle.runs.specs.Logs.{event_of, backwards, Noted, Kept, Broken, Carried}
 use Rattle.runs.specs.declared.calls.Call.{Call}
 use Rattle.runs.specs.declared.log.Entry.{Entry}
 

@@ -1,13 +1,12 @@
 -- What each call does, from what it promises.
-use Rattle.std.proofs.Common.{◌≡◌, ℕ, ◌+◌, ◌-◌, ◌*◌, ◌<◌, ◌≤◌, min, Bool, true, false, cond, ltb, leb, List, [], ◌∷◌, ◌++◌, length, take, drop, Some, None, Ok, Err, Option, Result, sym, refl, ap, ◌∙◌, subst, arith}
-use Rattle.std.proofs.lemmas.Bool.{cases_Bool, le-leb, leb-true, cond-true, cond-false}
+use Rattle.std.proofs.Common.{◌≡◌, ℕ, ◌+◌, ◌-◌, ◌*◌, ◌<◌, ◌≤◌, min, Bool, true, false, cond, leb, List, [], ◌++◌, length, take, drop, None, Ok, Err, Result, sym, refl, ap, ◌∙◌, subst, arith}
+use Rattle.std.proofs.lemmas.Bool.{le-leb, leb-true, cond-true, cond-false}
 use Rattle.std.proofs.lemmas.Bool.Decides.{nat_tests}
 use Rattle.fold.specs.Walk.{from_1_to}
 use Rattle.pages.specs.Meaning.{fault, end_at, written, pour_at, poured}
 use Rattle.pages.specs.Splice.{splice}
 use Rattle.pages.specs.declared.faults.Fault.{Fault}
 use Rattle.pages.specs.declared.faults.Refusal.TheVariants.{ShortBuffer, NoSuch}
-use Rattle.text.specs.Writes.{Wrote}
 use Rattle.text.proofs.Splices.{splice_none}
 use Rattle.plan.specs.declared.record.Record.{Record}
 use Rattle.runs.specs.Books.{Book, depth_of, print_refusal, Prints, Writes, pull_back, pulled_to}
@@ -19,7 +18,7 @@ use Rattle.runs.specs.declared.calls.Answer.TheVariants.{Printed, Poured, Refuse
 use Rattle.runs.specs.declared.calls.Call.{Call}
 use Rattle.runs.specs.declared.calls.Call.TheVariants.{Print, PullBack, Pour}
 use Rattle.runs.specs.declared.done.Done.{Done}
-use Rattle.runs.proofs.Buffers.{front_fits, front_length, front_kept, front_written, front_between}
+use Rattle.runs.proofs.Buffers.{front_length, front_kept, front_written, front_between}
 
 -- a print that is not refused has its room
 pub record Room (k : Book) (room list n : ℕ) : Type 0 where

@@ -1,7 +1,6 @@
 -- A run over an accepted order.
-use Rattle.std.proofs.Common.{◌≡◌, ℕ, List, [], ◌∷◌, ◌++◌, Some, Option, sym, refl, ap, ◌∙◌, subst}
+use Rattle.std.proofs.Common.{◌≡◌, ℕ, List, [], ◌∷◌, ◌++◌, Option, sym, ap, ◌∙◌, subst}
 use Rattle.fold.specs.Signatures.{letters_of}
-use Rattle.fold.specs.Words.{Letters, scheme}
 use Rattle.fold.specs.declared.signature.Signature.{Signature}
 use Rattle.pages.specs.Meaning.{Lawful, Meaning}
 use Rattle.layers.specs.Layering.{Below, Exact}

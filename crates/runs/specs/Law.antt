@@ -1,5 +1,5 @@
 -- The law of a run of calls: the source m is printed on signatures of k sheets, folded by the word u.
-use Rattle.std.specs.Prelude.{◌≡◌, ℕ, ◌+◌, ◌*◌, ◌≤◌, cond, List, [], ◌∷◌, ◌++◌, length, drop, Some, None, nat_le}
+use Rattle.std.specs.Prelude.{◌≡◌, ℕ, ◌*◌, ◌≤◌, cond, List, ◌++◌, length, drop, Some, None, nat_le}
 use Rattle.std.specs.Option.{option_map}
 use Rattle.fold.specs.Words.{Letters}
 use Rattle.pages.specs.Meaning.{Meaning, size_of}

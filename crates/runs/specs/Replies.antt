@@ -1,5 +1,5 @@
 -- The one reply that the rules give each call.
-use Rattle.std.specs.Prelude.{ℕ, ◌+◌, ◌-◌, ◌*◌, min, Bool, true, false, cond, List, [], length, take, drop, Some, None, Ok, Err, Option, Result, nat_le}
+use Rattle.std.specs.Prelude.{ℕ, ◌+◌, ◌-◌, min, Bool, true, false, cond, List, [], length, take, drop, Some, None, Ok, Err, Option, Result, nat_le}
 use Rattle.pages.specs.Meaning.{fault, size_of, laid_at, place_at, length_at, pour_at}
 use Rattle.pages.specs.declared.faults.Fault.{Fault}
 use Rattle.pages.specs.declared.faults.Refusal.TheVariants.{ShortBuffer}

@@ -19,8 +19,8 @@ fn carry_out<P: Printer>(
     plan: &mut [Record],
     log: &mut Log,
 ) -> Result<(), AllocError>
-    ensures same { stays printer.old printer.new }
-    ensures carried { Carried (book printer.old) (printed printer.old) buffer.old plan.old (history log.old) (call ∷ []) (printed printer.new) buffer.new plan.new (history log.new) result }
+    ensures same { P.stays printer.old printer.new }
+    ensures carried { Carried (P.book printer.old) (P.printed printer.old) buffer.old plan.old (history log.old) (call ∷ []) (P.printed printer.new) buffer.new plan.new (history log.new) result }
 {
     let Done { answer, start, end } = perform(printer, call, buffer, plan);
     log.note(call, answer, &buffer[start..end])
@@ -34,8 +34,8 @@ pub(crate) fn carry_out_all<P: Printer>(
     plan: &mut [Record],
     log: &mut Log,
 ) -> Result<(), AllocError>
-    ensures same { stays printer.old printer.new }
-    ensures carried { Carried (book printer.old) (printed printer.old) buffer.old plan.old (history log.old) calls.now (printed printer.new) buffer.new plan.new (history log.new) result }
+    ensures same { P.stays printer.old printer.new }
+    ensures carried { Carried (P.book printer.old) (P.printed printer.old) buffer.old plan.old (history log.old) calls.now (P.printed printer.new) buffer.new plan.new (history log.new) result }
 {
     for call in calls {
         carry_out(printer, *call, buffer, plan, log)?;

@@ -67,8 +67,8 @@ fn print_within<P: Printer>(
     buffer: &mut [u8],
     plan: &mut [Record],
 ) -> Done
-    ensures same { stays printer.old printer.new }
-    ensures does { Does (book printer.old) (Call.Print room) (printed printer.old) (printed printer.new) buffer.old buffer.new plan.old plan.new result }
+    ensures same { P.stays printer.old printer.new }
+    ensures does { Does (P.book printer.old) (Call.Print room) (P.printed printer.old) (P.printed printer.new) buffer.old buffer.new plan.old plan.new result }
 {
     let end = room.min(buffer.len());
     match printer.print(&mut buffer[0..end], plan) {
@@ -83,7 +83,7 @@ fn print_within<P: Printer>(
 
 // Writes the opening into the first bytes of the buffer.
 fn opening_within<P: Printer>(printer: &P, room: usize, buffer: &mut [u8]) -> Done
-    ensures { (n : ℕ) (plan : List Line) → Does (book printer.now) (Call.Opening room) n n buffer.old buffer.new plan plan result }
+    ensures { (n : ℕ) (plan : List Line) → Does (P.book printer.now) (Call.Opening room) n n buffer.old buffer.new plan plan result }
 {
     let end = room.min(buffer.len());
     match printer.opening(&mut buffer[0..end]) {
@@ -98,7 +98,7 @@ fn opening_within<P: Printer>(printer: &P, room: usize, buffer: &mut [u8]) -> Do
 
 // Writes the ending into the first bytes of the buffer.
 fn ending_within<P: Printer>(printer: &P, room: usize, buffer: &mut [u8]) -> Done
-    ensures { (n : ℕ) (plan : List Line) → Does (book printer.now) (Call.Ending room) n n buffer.old buffer.new plan plan result }
+    ensures { (n : ℕ) (plan : List Line) → Does (P.book printer.now) (Call.Ending room) n n buffer.old buffer.new plan plan result }
 {
     let end = room.min(buffer.len());
     match printer.ending(&mut buffer[0..end]) {
@@ -119,7 +119,7 @@ fn pour_within<P: Printer>(
     room: usize,
     buffer: &mut [u8],
 ) -> Done
-    ensures { (n : ℕ) (plan : List Line) → Does (book printer.now) (Call.Pour leaf at room) n n buffer.old buffer.new plan plan result }
+    ensures { (n : ℕ) (plan : List Line) → Does (P.book printer.now) (Call.Pour leaf at room) n n buffer.old buffer.new plan plan result }
 {
     let end = room.min(buffer.len());
     match printer.pour(leaf, &mut buffer[0..end], at) {
@@ -139,8 +139,8 @@ pub(crate) fn perform<P: Printer>(
     buffer: &mut [u8],
     plan: &mut [Record],
 ) -> Done
-    ensures same { stays printer.old printer.new }
-    ensures does { Does (book printer.old) call (printed printer.old) (printed printer.new) buffer.old buffer.new plan.old plan.new result }
+    ensures same { P.stays printer.old printer.new }
+    ensures does { Does (P.book printer.old) call (P.printed printer.old) (P.printed printer.new) buffer.old buffer.new plan.old plan.new result }
 {
     match call {
         Call::Print { room } => print_within(printer, room, buffer, plan),

@@ -1,4 +1,4 @@
-use Rattle.std.proofs.Common.{[], sym, refl, ap}
+use Rattle.std.proofs.Common.{[], refl, ap}
 use Rattle.runs.specs.Replies.{reply, reply_by}
 use Rattle.runs.specs.declared.calls.Answer.TheVariants.{Counted, Shown, Measured, Number, Placed}
 use Rattle.runs.specs.declared.calls.Call.TheVariants.{HowFar, Cell, Size, Leaves, Pages, Depth, Laid, Place, Length}
@@ -6,7 +6,7 @@ use Rattle.runs.proofs.Performing.{asked, asked_by, called, pull_does}
 use Rattle.runs.proofs.steps.perform.Goals as goal
 
 pub returns-in-Print : goal.returns-in-Print
-returns-in-Print g c = record { same = c.print-within.ensures.same; does = called c.in-Print.is c.print-within.ensures.does }
+returns-in-Print g c = record { same = c.print_within.ensures.same; does = called c.in-Print.is c.print_within.ensures.does }
 
 pub returns-in-PullBack : goal.returns-in-PullBack
 returns-in-PullBack g c =
@@ -14,26 +14,26 @@ returns-in-PullBack g c =
     let n = g.P.Printer.printed c.args.printer.now in
     let b = c.args.buffer.now in
     let p = c.args.plan.now in
-    let h = c.pull-back.ensures in
+    let h = c.pull_back.ensures in
     record {
       same = h.same;
-      does = called c.in-PullBack.is (pull_does k n (g.P.Printer.printed c.pull-back.new.self) c.in-PullBack.side b p c.pulled.result c.silent.result c.pull-back.result c.silent.ensures c.pulled.ensures h.answer h.count);
+      does = called c.in-PullBack.is (pull_does k n (g.P.Printer.printed c.pull_back.new.self) c.in-PullBack.side b p c.pulled.result c.silent.result c.pull_back.result c.silent.ensures c.pulled.ensures h.answer h.count);
     }
 
 pub returns-in-Opening : goal.returns-in-Opening
 returns-in-Opening g c =
     let n = g.P.Printer.printed c.args.printer.now in
-    record { same = g.met.P.Printer.reflexive c.args.printer.now; does = called c.in-Opening.is (c.opening-within.ensures n c.args.plan.now) }
+    record { same = g.met.P.Printer.reflexive c.args.printer.now; does = called c.in-Opening.is (c.opening_within.ensures n c.args.plan.now) }
 
 pub returns-in-Ending : goal.returns-in-Ending
 returns-in-Ending g c =
     let n = g.P.Printer.printed c.args.printer.now in
-    record { same = g.met.P.Printer.reflexive c.args.printer.now; does = called c.in-Ending.is (c.ending-within.ensures n c.args.plan.now) }
+    record { same = g.met.P.Printer.reflexive c.args.printer.now; does = called c.in-Ending.is (c.ending_within.ensures n c.args.plan.now) }
 
 pub returns-in-Pour : goal.returns-in-Pour
 returns-in-Pour g c =
     let n = g.P.Printer.printed c.args.printer.now in
-    record { same = g.met.P.Printer.reflexive c.args.printer.now; does = called c.in-Pour.is (c.pour-within.ensures n c.args.plan.now) }
+    record { same = g.met.P.Printer.reflexive c.args.printer.now; does = called c.in-Pour.is (c.pour_within.ensures n c.args.plan.now) }
 
 pub returns-in-HowFar : goal.returns-in-HowFar
 returns-in-HowFar g c =
@@ -43,7 +43,7 @@ returns-in-HowFar g c =
     let p = c.args.plan.now in
     record {
       same = g.met.P.Printer.reflexive c.args.printer.now;
-      does = called c.in-HowFar.is (asked k HowFar n b p (Counted c.how-far.result) c.silent-in-HowFar.result c.silent-in-HowFar.ensures refl (record { same = λ n. refl; unprinted = refl }) (ap (λ z. reply (Counted z) []) c.how-far.ensures));
+      does = called c.in-HowFar.is (asked k HowFar n b p (Counted c.how_far.result) c.silent-in-HowFar.result c.silent-in-HowFar.ensures refl (record { same = λ n. refl; unprinted = refl }) (ap (λ z. reply (Counted z) []) c.how_far.ensures));
     }
 
 pub returns-in-Size : goal.returns-in-Size

@@ -8,4 +8,4 @@ use Rattle.runs.proofs.log.Log.note.Goals as goal
 pub returns : goal.returns
 returns c =
     let xs = vec_items c.args.self.now.entries in
-    ap backwards c.in-ok-push.ensures.items ∙ history_push xs _ ∙ ap (λ t. event c.args.call (reply c.args.answer t) ∷ backwards xs) c.in-ok-text.ensures.items
+    ap backwards c.in_ok-push.ensures.items ∙ history_push xs _ ∙ ap (λ t. event c.args.call (reply c.args.answer t) ∷ backwards xs) c.in_ok-text.ensures.items
