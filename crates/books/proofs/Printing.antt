@@ -10,13 +10,11 @@ use Rattle.signature.specs.Imposing.{cells}
 use Rattle.signature.specs.declared.imposition.Scheme.{Scheme}
 use Rattle.sides.specs.Texts.{ending_text, side_text}
 use Rattle.plan.specs.Records.{plan_to}
-use Rattle.plan.specs.declared.record.Record.{Record}
 use Rattle.runs.specs.Books.{Book, print_refusal}
 use Rattle.runs.specs.History.{Answered, Event, calls_of, count}
 use Rattle.runs.specs.Law.{book_of}
 use Rattle.runs.specs.Logs.{backwards, event_of, history}
 use Rattle.runs.specs.Replies.{Reply, after, print_reply, reply, reply_to}
-use Rattle.runs.specs.Runs.{Finished}
 use Rattle.runs.specs.declared.calls.Answer.TheVariants.{Ended, Opened, Printed}
 use Rattle.runs.specs.declared.calls.Call.{Call}
 use Rattle.runs.specs.declared.calls.Call.TheVariants.{Ending, Opening, Print}

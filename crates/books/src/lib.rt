@@ -1,4 +1,5 @@
 //! Runs of calls with the memory that they need, and whole books.
+#![tactic(auto)]
 
 mod books;
 pub mod output;

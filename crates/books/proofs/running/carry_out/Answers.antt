@@ -26,12 +26,12 @@ carried o m cs room list x b b' p p' n r l k e c h = record {
 
 pub returns-in-Ok-run : goal.returns-in-Ok-run
 returns-in-Ok-run g c =
-    let same = c.deref-mut-2.ensures.len in
-    let list = c.in-Ok-plan-of.ensures in
-    let kept : length c.run.new.plan ≡ length c.deref-mut-2.result.now = c.run.auto.plan in
+    let same = c.deref_mut-2.ensures.len in
+    let list = c.in-Ok-plan_of.ensures in
+    let kept : length c.run.new.plan ≡ length c.deref_mut-2.result.now = c.run.auto.plan in
     carried c.args.order (g.S.Source.meaning c.args.source) c.args.calls.now c.args.room c.args.list _
-    c.deref-mut.result.now c.run.new.buffer c.deref-mut-2.result.now c.run.new.plan c.in-Ok-run.field-0.job.printed
-    (c.deref-mut.ensures.len ∙ c.in-Ok.ensures) (same ∙ list) (kept ∙ same ∙ list)
-    (with_items_is c.in-Ok-plan-of.plan c.run.new.plan (kept ∙ same))
-    c.how-far.ensures
+    c.deref_mut.result.now c.run.new.buffer c.deref_mut-2.result.now c.run.new.plan c.in-Ok-run.field-0.job.printed
+    (c.deref_mut.ensures.len ∙ c.in-Ok.ensures) (same ∙ list) (kept ∙ same ∙ list)
+    (with_items_is c.in-Ok-plan_of.plan c.run.new.plan (kept ∙ same))
+    c.how_far.ensures
     c.in-Ok-run.ensures.law
