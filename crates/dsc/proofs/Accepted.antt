@@ -1,5 +1,5 @@
 -- An accepted DSC file has its parts.
-use Rattle.std.proofs.Common.{◌≡◌, ℕ, ◌+◌, ◌-◌, ◌≤◌, Bool, true, false, cond, not, ◌&&◌, eqb, ltb, List, [], ◌∷◌, ◌++◌, length, take, Some, None, Ok, Err, Option, Result, sym, refl, ap, ◌∙◌, subst, arith, length-append}
+use Rattle.std.proofs.Common.{◌≡◌, ℕ, ◌+◌, ◌-◌, ◌≤◌, Bool, true, false, cond, ◌&&◌, eqb, ltb, List, [], ◌∷◌, ◌++◌, length, take, Some, None, Ok, Err, Option, Result, sym, refl, ap, ◌∙◌, subst, arith, length-append}
 use Rattle.std.specs.Str.{bytes_eq}
 use Rattle.std.proofs.lemmas.Slice.Eq.{bytes_eq-Decides}
 use Rattle.std.proofs.lemmas.Bool.{and_parts, eqb-true, ltb-false}
@@ -17,7 +17,6 @@ use Rattle.dsc.specs.Bounds.{longest, mark}
 use Rattle.dsc.specs.Comments.{Kind, end_comments, trailer, pages, box, page, other}
 use Rattle.pages.specs.Meaning.{fault}
 use Rattle.dsc.specs.Scans.{Read, read, follow, run, start, scanned, letter, goes, ends, stops, in_head, in_body, by_part, pair, at_line, kind_of, end_head}
-use Rattle.dsc.specs.Documents as doc
 use Rattle.dsc.specs.Documents.{Line, Heads, AllHead, pages_or, size_or, first_pages, first_size, Leaf, bytes_of, index_of, Numbered, Ends, Document}
 use Rattle.dsc.proofs.Calm.{calm, kind_calm}
 use Rattle.dsc.proofs.Grows.{never, same_read}

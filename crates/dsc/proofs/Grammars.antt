@@ -72,8 +72,8 @@ trim_spaces : (a : ℕ) (x : List ℕ) → trim (spaces a ++ x) ≡ trim x
 trim_spaces zero x = refl
 trim_spaces (suc a) x = ap (λ n. drop n (32 ∷ (spaces a ++ x))) (one-add (blanks (spaces a ++ x))) ∙ trim_spaces a x
 
-trim-all : (a : ℕ) → trim (spaces a) ≡ []
-trim-all a = ap trim (sym (append-nil (spaces a))) ∙ trim_spaces a []
+trim_all : (a : ℕ) → trim (spaces a) ≡ []
+trim_all a = ap trim (sym (append-nil (spaces a))) ∙ trim_spaces a []
 
 -- words
 trim_parts : (v : List ℕ) → trim v ≡ word_of v ++ past_word v
@@ -108,7 +108,7 @@ spaces_stop zero = refl
 spaces_stop (suc a) = refl
 
 no_word_made : (a : ℕ) → length (word_of (spaces a)) ≡ 0
-no_word_made a = ap (λ x. length (take (until 32 x) x)) (trim-all a)
+no_word_made a = ap (λ x. length (take (until 32 x) x)) (trim_all a)
 
 -- numbers
 digits_are : (w : List ℕ) (a n : ℕ) → digits a w ≡ Some n → Each Digit w × (value_from a w ≡ n)

@@ -1,17 +1,17 @@
 -- A file that has the parts of a document is accepted.
-use Rattle.std.proofs.Common.{◌≡◌, ℕ, ◌+◌, ◌-◌, true, false, ◌&&◌, eqb, ltb, List, [], ◌∷◌, ◌++◌, length, take, Some, None, Ok, Option, Result, sym, refl, ap, ◌∙◌, add-zero, arith, length-append}
+use Rattle.std.proofs.Common.{◌≡◌, ℕ, ◌+◌, ◌-◌, true, ◌&&◌, eqb, ltb, List, [], ◌∷◌, ◌++◌, length, take, Some, None, Ok, Option, Result, sym, refl, ap, ◌∙◌, add-zero, arith, length-append}
 use Rattle.std.proofs.lemmas.Slice.Eq.{bytes_eq-Decides}
 use Rattle.std.proofs.lemmas.Bool.{cond-true, cond-false, and_from, eq-eqb, lt-ltb, le-ltb, false≢true}
 use Rattle.std.proofs.lemmas.List.{append-nil, append_assoc}
 use Rattle.pages.specs.declared.faults.Fault.{Fault}
 use Rattle.pages.specs.declared.maps.Size.{Size}
 use Rattle.pages.specs.Pieces.{Piece, fresh, done, flat, AllCalm}
-use Rattle.pages.specs.Inks.{Context, plain, lines, line, lines_of, text_of, Ink}
+use Rattle.pages.specs.Inks.{Context, plain, lines, lines_of, text_of, Ink}
 use Rattle.dsc.specs.declared.scanner.Part.{Part}
 use Rattle.dsc.specs.declared.scanner.Part.TheVariants.{Preamble, Leaves}
 use Rattle.dsc.specs.declared.scanner.Scanner.{Scanner}
 use Rattle.dsc.specs.Bounds.{longest, mark}
-use Rattle.dsc.specs.Comments.{Kind, end_comments, trailer, pages, box, page, other, kind}
+use Rattle.dsc.specs.Comments.{Kind, end_comments, trailer, pages, box, page, other}
 use Rattle.dsc.specs.Scans.{Read, follow, run, start, scanned, goes, in_head, in_body, step, kind_of}
 use Rattle.dsc.specs.Documents.{Line, Heads, AllHead, pages_or, size_or, first_pages, first_size, Leaf, bytes_of, index_of, Numbered, Ends, Document}
 use Rattle.dsc.proofs.Calm.{calm, kind_calm}

@@ -13,8 +13,8 @@ module _ (xs : List ℕ) (i : ℕ) where
   pub until_more : (c : ℕ) → i < length xs → (get_or xs i 0 ≡ c → ⊥) → until c (drop i xs) ≡ 1 + until c (drop (i + 1) xs)
   until_more c l e = prefix_len-drop_yes (λ b. not (eqb b c)) xs i 0 l (not_from_false _ (ne_eqb _ _ e))
 
-  pub until-all : (c : ℕ) → length xs ≤ i → until c (drop i xs) ≡ 0
-  until-all c l = prefix_len-drop_all (λ b. not (eqb b c)) xs i l
+  pub until_all : (c : ℕ) → length xs ≤ i → until c (drop i xs) ≡ 0
+  until_all c l = prefix_len-drop_all (λ b. not (eqb b c)) xs i l
 
   pub digits_more : (a : ℕ) → i < length xs → 48 ≤ get_or xs i 0 → get_or xs i 0 ≤ 57 → digits a (drop i xs) ≡ digits (a * 10 + (get_or xs i 0 - 48)) (drop (i + 1) xs)
   digits_more a l lo hi =
@@ -31,8 +31,8 @@ module _ (xs : List ℕ) (i : ℕ) where
       let d : digit (get_or xs i 0) ≡ false = and_right _ _ (lt-leb _ _ hi) in
       at_drop_more (digits a) xs i 0 l ∙ cond-false (digit (get_or xs i 0)) _ _ d
 
-  pub digits-all : (a : ℕ) → length xs ≤ i → digits a (drop i xs) ≡ Some a
-  digits-all a l = at_drop_all (digits a) xs i l
+  pub digits_all : (a : ℕ) → length xs ≤ i → digits a (drop i xs) ≡ Some a
+  digits_all a l = at_drop_all (digits a) xs i l
 
 pub until_le : (c : ℕ) (xs : List ℕ) → until c xs ≤ length xs
 until_le c xs = prefix_len-le-length (λ b. not (eqb b c)) xs

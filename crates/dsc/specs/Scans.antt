@@ -37,21 +37,21 @@ end_head (Some n) None s at next = stops (at_line OutOfOrder s at)
 end_head None z s at next = stops (at_line OutOfOrder s at)
 
 -- the first Pages and the first BoundingBox count
-abbrev pub take-pages : Option ℕ → Option Size → Scanner → ℕ → Option ℕ → Step
-take-pages (Some n) z s at v = goes s []
-take-pages None z s at None = stops (at_line BadComment s at)
-take-pages None z s at (Some n) = goes (to_part s (Head (Some n) z)) []
+abbrev pub take_pages : Option ℕ → Option Size → Scanner → ℕ → Option ℕ → Step
+take_pages (Some n) z s at v = goes s []
+take_pages None z s at None = stops (at_line BadComment s at)
+take_pages None z s at (Some n) = goes (to_part s (Head (Some n) z)) []
 
-abbrev pub take-size : Option ℕ → Option Size → Scanner → ℕ → Option Size → Step
-take-size p (Some z) s at v = goes s []
-take-size p None s at None = stops (at_line BadComment s at)
-take-size p None s at (Some z) = goes (to_part s (Head p (Some z))) []
+abbrev pub take_size : Option ℕ → Option Size → Scanner → ℕ → Option Size → Step
+take_size p (Some z) s at v = goes s []
+take_size p None s at None = stops (at_line BadComment s at)
+take_size p None s at (Some z) = goes (to_part s (Head p (Some z))) []
 
 abbrev pub in_head : Option ℕ → Option Size → Scanner → ℕ → ℕ → Kind → Step
 in_head p z s at next end_comments = end_head p z s at next
 in_head p z s at next trailer = stops (at_line OutOfOrder s at)
-in_head p z s at next (pages v) = take-pages p z s at v
-in_head p z s at next (box v) = take-size p z s at v
+in_head p z s at next (pages v) = take_pages p z s at v
+in_head p z s at next (box v) = take_size p z s at v
 in_head p z s at next (page l o) = stops (at_line OutOfOrder s at)
 in_head p z s at next other = goes s []
 

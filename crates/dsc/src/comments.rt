@@ -107,10 +107,10 @@ fn label_size(s: &[u8]) -> usize
 fn keyword<'a>(rest: &'a [u8]) -> Comment<'a>
     ensures { view result ≡ keyword_of rest.now }
 {
-    if rest == b"EndComments" {
+    if rest == b"EndComments".as_slice() {
         return Comment::EndComments;
     }
-    if rest == b"Trailer" {
+    if rest == b"Trailer".as_slice() {
         return Comment::Trailer;
     }
     if let Some(value) = after(rest, b"Pages:") {

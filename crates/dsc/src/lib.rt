@@ -2,6 +2,8 @@
 //!
 //! `scan` reads a file and fills an index; a `Dsc` is loaded with both, and shows page i as leaf i.
 
+#![tactic(auto)]
+
 mod comments;
 mod laws;
 mod lines;

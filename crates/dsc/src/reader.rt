@@ -1,7 +1,10 @@
 //! A DSC reader, which holds its file and its index.
 ghost use Rattle.std.specs.Prelude.{◌≡◌};
+ghost use Rattle.pages.specs.Meaning.{Lawful};
 ghost use Rattle.dsc.specs.Scans.{meant};
-ghost use Rattle.dsc.specs.Readers.{Held};
+ghost use Rattle.dsc.specs.Readers.{Held, meaning_of};
+ghost use Rattle.dsc.specs.Props.{AllCalm-prop};
+ghost use Rattle.std.proofs.Props.{props};
 
 use pages::maps::Size;
 
@@ -15,4 +18,5 @@ pub struct Dsc<'a> {
     ghost counted: { leaves ≡ (meant file.now).leaves },
     ghost sized: { size ≡ (meant file.now).size },
     ghost held: { Held file.now index.now },
+    ghost lawful: { Lawful (meaning_of file.now) } by { Prim.hlevel (props, AllCalm-prop) },
 }

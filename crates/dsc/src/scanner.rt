@@ -69,8 +69,8 @@ impl Scanner {
 
     // The line of this kind at `at`; the next one begins at `next`.
     pub(crate) fn line(&mut self, kind: Comment<'_>, at: u32, next: u32) -> Result<Turn, Fault>
-        requires from_le_at { self.old.from ≤ at }
-        requires at_le_next { at ≤ next }
+        requires from_before { self.old.from ≤ at }
+        requires next_after { at ≤ next }
         ensures behind { self.new.from ≤ next }
         ensures told { told self.new result ≡ step self.old at next (view kind.entry) }
     {

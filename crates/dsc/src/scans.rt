@@ -11,8 +11,8 @@ use pages::faults::{Fault, Refusal};
 
 // How many numbers the index of a file has.
 fn survey(file: &[u8]) -> Result<usize, Fault>
-    requires file_len_bound { length file.now ≤ longest }
-    requires file_value { scanned file.now ≡ run start 0 [] (lines_of file.now) }
+    requires short { length file.now ≤ longest }
+    requires opened { scanned file.now ≡ run start 0 [] (lines_of file.now) }
     ensures { Surveyed file.now result }
 {
     let mut reading = Reading::new(file);
@@ -26,10 +26,10 @@ fn survey(file: &[u8]) -> Result<usize, Fault>
 }
 
 fn fill(file: &[u8], index: &mut [u32]) -> u32
-    requires file_len_bound { length file.now ≤ longest }
-    requires file_value { scanned file.now ≡ run start 0 [] (lines_of file.now) }
-    requires file_value_2 { scanned file.now ≡ Ok (meant file.now) }
-    requires file_in_bounds { length (meant file.now).index ≤ length index.old }
+    requires short { length file.now ≤ longest }
+    requires opened { scanned file.now ≡ run start 0 [] (lines_of file.now) }
+    requires accepted { scanned file.now ≡ Ok (meant file.now) }
+    requires room { length (meant file.now).index ≤ length index.old }
     ensures answer { answered (scanned file.now) (length index.old) ≡ Ok result }
     ensures after { index.new ≡ indexed (scanned file.now) index.old }
 {

@@ -9,6 +9,8 @@ use pages::sources::{Source, write};
 impl<'a> Source for Dsc<'a> {
     ghost meaning = { λ d. meaning_of d.file.now };
 
+    ghost lawful = { λ d. d.lawful };
+
     fn size(&self) -> Size {
         self.size
     }

@@ -15,7 +15,7 @@ loop-reading-preserved-in-Some c =
     let xs = inv.0 in
     let w = c.advance.new.self in
     let ink = c.in-Some.ink in
-    let told = c.in-ok-ink.ensures in (
+    let told = c.in_ok-ink.ensures in (
       xs ++ ink.offset ∷ ink.length ∷ [],
       sym (ap (λ q. rest w (xs ++ numbers q)) c.in-Some.is) ∙ sym (told.0 xs) ∙ inv.1,
       length-append xs (ink.offset ∷ ink.length ∷ []) ∙ omega (arith, inv.2),

@@ -15,7 +15,7 @@ next c = sym (ap (λ q. rest c.advance.new.self (c.loop-reading.invariant.0 ++ n
 room : (c : In-Some) → c.loop-reading.k + 2 ≤ length c.args.index.now
 room c =
     let xs = c.loop-reading.invariant.0 in
-    omega (arith, rest_grows c.advance.new.self (xs ++ c.in-Some.ink.offset ∷ c.in-Some.ink.length ∷ []) (meant c.args.file.now) (next c ∙ c.requires.2), length-append xs (c.in-Some.ink.offset ∷ c.in-Some.ink.length ∷ []), c.loop-reading.invariant.2, c.requires.3)
+    omega (arith, rest_grows c.advance.new.self (xs ++ c.in-Some.ink.offset ∷ c.in-Some.ink.length ∷ []) (meant c.args.file.now) (next c ∙ c.requires.accepted), length-append xs (c.in-Some.ink.offset ∷ c.in-Some.ink.length ∷ []), c.loop-reading.invariant.2, c.requires.room)
 
 pub bounds-index-k : goal.bounds-index-k
 bounds-index-k c = omega (arith, room (goal.at.bounds-index-k c).In-Some, c.loop-reading.auto.index)
@@ -42,7 +42,7 @@ returns c =
     let xs = inv.0 in
     let old = c.args.index.now in
     let is : scanned c.args.file.now ≡ Ok (read w.scanner xs) = sym inv.1 ∙ cond-true _ _ _ c.loop-reading-test.false in
-    let fits : length xs ≤ length old = omega (arith, c.requires.3, ap (λ (r : Result Read Fault). length (meant_by r).index) is) in
+    let fits : length xs ≤ length old = omega (arith, c.requires.room, ap (λ (r : Result Read Fault). length (meant_by r).index) is) in
     record {
       answer = ap (λ (r : Result Read Fault). answered r (length old)) is ∙ cond-true _ _ _ (le-leb _ _ fits);
       after = inv.3 ∙ ap (λ k. xs ++ drop k old) (sym inv.2) ∙ sym (ap (λ (r : Result Read Fault). indexed r old) is ∙ cond-true _ _ _ (le-leb _ _ fits));

@@ -6,8 +6,8 @@ pub loop-reading-preserved-in-Some : goal.loop-reading-preserved-in-Some
 loop-reading-preserved-in-Some c =
     let inv = c.loop-reading.invariant in
     let xs = inv.0 in
-    let ys = numbers c.in-ok-advance.field-0 in
-    let told = c.in-ok-advance.ensures in
+    let ys = numbers c.in_ok-advance.field-0 in
+    let told = c.in_ok-advance.ensures in
     let two = ap (λ q. length (numbers q)) c.in-Some.is in (
       xs ++ ys,
       sym (told.0 xs) ∙ inv.1,

@@ -17,8 +17,8 @@ bounds-index-i c = omega (arith, long (goal.at.bounds-index-i c).Else-leaf-self)
 pub bounds-index-i-2 : goal.bounds-index-i-2
 bounds-index-i-2 c = omega (arith, long (goal.at.bounds-index-i-2 c).Else-leaf-self)
 
-pub slice-bounds-result-end : goal.slice-bounds-result-end
-slice-bounds-result-end c = omega (arith, held_inside c.args.self.now.file.now c.args.self.now.index.now c.args.leaf c.args.self.now.held (there (goal.at.slice-bounds-result-end c).Else-leaf-self))
+pub slice_bounds-result-end : goal.slice_bounds-result-end
+slice_bounds-result-end c = omega (arith, held_inside c.args.self.now.file.now c.args.self.now.index.now c.args.leaf c.args.self.now.held (there (goal.at.slice_bounds-result-end c).Else-leaf-self))
 
 pub returns : goal.returns
 returns c =

@@ -36,19 +36,19 @@ bounds-index-i-2 c = omega (arith, long (goal.at.bounds-index-i-2 c).Else-leaf-s
 pub bounds-index-i-3 : goal.bounds-index-i-3
 bounds-index-i-3 c = omega (arith, long (goal.at.bounds-index-i-3 c).Else-leaf-self)
 
-pub slice-bounds-text-count : goal.slice-bounds-text-count
-slice-bounds-text-count c = omega (arith, (line (goal.at.slice-bounds-text-count c).Else-leaf-self).behind)
+pub slice_bounds-text-count : goal.slice_bounds-text-count
+slice_bounds-text-count c = omega (arith, (line (goal.at.slice_bounds-text-count c).Else-leaf-self).behind)
 
-pub slice-bounds-text-start : goal.slice-bounds-text-start
-slice-bounds-text-start c = omega (arith, (line (goal.at.slice-bounds-text-start c).Else-leaf-self).behind)
+pub slice_bounds-text-start : goal.slice_bounds-text-start
+slice_bounds-text-start c = omega (arith, (line (goal.at.slice_bounds-text-start c).Else-leaf-self).behind)
 
-pub slice-bounds-text-end : goal.slice-bounds-text-end
-slice-bounds-text-end c = omega (arith, (line (goal.at.slice-bounds-text-end c).Else-leaf-self).within)
+pub slice_bounds-text-end : goal.slice_bounds-text-end
+slice_bounds-text-end c = omega (arith, (line (goal.at.slice_bounds-text-end c).Else-leaf-self).within)
 
 pub unreachable-requires : goal.unreachable-requires
 unreachable-requires c =
     let known = line (goal.at.unreachable-requires c).Else-leaf-self in
-    is_page c.kind-of.result known.label (Some c.args.leaf) (c.kind-of.ensures ∙ ap kind c.text.ensures ∙ known.means) c.in-default.not-Page
+    is_page c.kind_of.result known.label (Some c.args.leaf) (c.kind_of.ensures ∙ ap kind c.text.ensures ∙ known.means) c.in_default.not-Page
 
 pub returns : goal.returns
 returns c =
