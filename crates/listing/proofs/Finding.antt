@@ -1,12 +1,11 @@
 -- The pair of a page in the index, and the bytes that it finds.
-use Rattle.std.proofs.Common.{◌≡◌, ℕ, zero, suc, ◌+◌, ◌-◌, ◌*◌, ◌<◌, ◌≤◌, List, [], ◌∷◌, length, get_or, take, drop, sym, refl, ap, ◌∙◌, subst, arith, length-drop, length-take}
+use Rattle.std.proofs.Common.{◌≡◌, ℕ, zero, suc, ◌+◌, ◌-◌, ◌*◌, ◌<◌, ◌≤◌, List, [], ◌∷◌, length, get_or, take, drop, sym, ap, ◌∙◌, subst, arith, length-drop, length-take}
 use Rattle.std.proofs.lemmas.List.{drop-drop, get_or-take, length-take-le}
 use Rattle.text.specs.Searches.{until}
 use Rattle.text.proofs.Searches.{until_le}
 use Rattle.listing.specs.Meaning.{page_of}
 use Rattle.listing.specs.Pages.{cut}
 use Rattle.listing.specs.Scans.{Indexed, file_index, index_from}
-use Rattle.listing.specs.Shapes.{AllPaged, Paged}
 use Rattle.listing.proofs.Cuts.{cut_step, length-index}
 
 -- in bytes that begin at a place of the file, an offset and a length find a part
@@ -71,15 +70,6 @@ leaf_found file index (suc i) e l h =
     ap (λ m. get_or (file_index file) m 0) (sym twice') ∙ sym (index_is file index (2 * suc i + 1) e (omega arith)) in
     subst (λ o. Found 0 file o (get_or index (2 * suc i + 1) 0) (get_or (cut 12 file) i [])) a
     (subst (λ n. Found 0 file (get_or (index_from 0 (cut 12 file)) (2 * i) 0) n (get_or (cut 12 file) i [])) b (page_at 0 file i (omega arith)))
-
-paged_at : (ps : List (List ℕ)) (i : ℕ) → i < length ps → AllPaged ps → Paged (get_or ps i [])
-paged_at [] i h a = absurd (omega arith)
-paged_at (p ∷ ps) zero h a = a.0
-paged_at (p ∷ ps) (suc i) h a = paged_at ps i (omega arith) a.1
-
-pub leaf_paged : (file : List ℕ) (leaf : ℕ) → AllPaged (cut 12 file) → 1 ≤ leaf → leaf ≤ length (cut 12 file) → Paged (page_of file leaf)
-leaf_paged file zero a l h = absurd (omega arith)
-leaf_paged file (suc i) a l h = paged_at (cut 12 file) i (omega arith) a
 
 pub index_long : (file index : List ℕ) → Indexed file index → 2 * length (cut 12 file) + 2 ≤ length index
 index_long file index e = omega (arith, ap length e, length-take (length (file_index file)) index, length-index 0 (cut 12 file))

@@ -5,3 +5,8 @@ pub mod Shapes
 pub mod Inks
 pub mod Loads
 pub mod Meaning
+pub mod Refusals
+pub mod Bounds
+pub mod Inking
+pub mod Parting
+pub mod Lawful

@@ -1,5 +1,5 @@
 -- Bytes parted by a separator: pages by form feeds, lines by line feeds.
-use Rattle.std.specs.Prelude.{◌≡◌, ℕ, Bool, cond, List, [], ◌∷◌, ◌++◌, ◌==◌}
+use Rattle.std.specs.Prelude.{ℕ, cond, List, [], ◌∷◌, ◌==◌}
 
 -- A byte more in front of the first part.
 abbrev pub onto : ℕ → List (List ℕ) → List (List ℕ)

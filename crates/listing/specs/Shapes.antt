@@ -2,7 +2,7 @@
 use Rattle.std.specs.Prelude.{◌≡◌, ℕ, ◌≤◌, Bool, true, not, ◌&&◌, ◌⊎◌, List, [], ◌∷◌, ◌++◌, length, ◌==◌}
 use Rattle.pages.specs.Limits.{max_pages}
 use Rattle.listing.specs.Pages.{cut}
-use Rattle.listing.specs.Places.{allowed, form_feed, line_feed, max_columns, max_lines}
+use Rattle.listing.specs.Places.{form_feed, line_feed, max_columns, max_lines}
 use Rattle.listing.specs.Scans.{Good}
 
 -- Parts, each of at most n bytes.

@@ -68,8 +68,8 @@ fn baseline(i: u32) -> u64
 }
 
 fn line_length(i: u32, line: &[u8]) -> usize
-    requires i_lt_max_lines { i < max_lines }
-    requires line_len_bound { length line.now ≤ max_columns }
+    requires on_page { i < max_lines }
+    requires short { length line.now ≤ max_columns }
     ensures { (result ≡ length (shown_line i line.now)) × (result ≤ 400) }
 {
     let around = [
@@ -81,9 +81,9 @@ fn line_length(i: u32, line: &[u8]) -> usize
 }
 
 fn put_line(buffer: &mut [u8], at: usize, i: u32, line: &[u8]) -> usize
-    requires i_lt_max_lines { i < max_lines }
-    requires line_len_bound { length line.now ≤ max_columns }
-    requires line_in_bounds { at + length (shown_line i line.now) ≤ length buffer.old }
+    requires on_page { i < max_lines }
+    requires short { length line.now ≤ max_columns }
+    requires fits { at + length (shown_line i line.now) ≤ length buffer.old }
     ensures { Wrote buffer.old at (shown_line i line.now) buffer.new result }
 {
     let mut space = [0u8; 264];
@@ -132,7 +132,7 @@ pub(crate) fn ink_length(page: &[u8]) -> u32
 /// Writes the ink of a page, which fits, and answers the place after it.
 pub(crate) fn put_ink(buffer: &mut [u8], at: usize, page: &[u8]) -> usize
     requires paged { Paged page.now }
-    requires page_in_bounds { at + length (ink_of page.now) ≤ length buffer.old }
+    requires fits { at + length (ink_of page.now) ≤ length buffer.old }
     ensures { Wrote buffer.old at (ink_of page.now) buffer.new result }
 {
     let mut end = put_font(buffer, at);

@@ -1,4 +1,5 @@
 //! Line-printer listings as a page source: pages parted by form feeds, lines by line feeds.
+#![tactic(auto)]
 
 mod inks;
 mod laws;

@@ -79,8 +79,8 @@ fn put_pair(index: &mut [u32], k: usize, offset: u32, length: u32) -> usize
 
 /// Writes the pair of the preamble, which is empty, and of each page.
 fn fill(file: &[u8], index: &mut [u32])
-    requires file_bound { size file.now ≤ max_ink }
-    requires file_bound_2 { size (file_index file.now) ≤ size index.old }
+    requires in_bounds { size file.now ≤ max_ink }
+    requires index_fits { size (file_index file.now) ≤ size index.old }
     ensures { index.new ≡ splice index.old 0 (file_index file.now) }
 {
     let mut k = put_pair(index, 0, 0, 0);

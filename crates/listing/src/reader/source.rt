@@ -1,6 +1,7 @@
 ghost use Rattle.std.specs.Prelude.{◌≡◌, ◌≤◌};
 ghost use Rattle.listing.specs.Meaning.{listed, page_of};
 ghost use Rattle.listing.specs.Shapes.{Paged};
+ghost use Rattle.listing.specs.Lawful.{listed_lawful};
 ghost use Rattle.pages.specs.Meaning.{fault};
 
 use crate::inks::{ink_length, put_ink};
@@ -38,6 +39,8 @@ impl<'a> Listing<'a> {
 
 impl<'a> Source for Listing<'a> {
     ghost meaning = { λ s. listed s.file.now };
+
+    ghost lawful = { λ s. listed_lawful s.file.now s.clean };
 
     fn size(&self) -> Size {
         Size {

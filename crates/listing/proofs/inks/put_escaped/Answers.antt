@@ -1,4 +1,4 @@
-use Rattle.std.proofs.Common.{◌≡◌, ◌+◌, ◌≤◌, [], ◌++◌, length, get_or, drop, sym, refl, ap, ◌∙◌, append_assoc, append-nil, arith, length-append}
+use Rattle.std.proofs.Common.{◌≡◌, ◌+◌, [], ◌++◌, length, get_or, drop, sym, refl, ap, ◌∙◌, append_assoc, append-nil, arith, length-append}
 use Rattle.std.proofs.lemmas.List.{at_drop_more, at_drop_all}
 use Rattle.text.proofs.Splices.{and_then, wrote_as, wrote_none}
 use Rattle.listing.specs.Inks.{escape, escaped}
@@ -7,8 +7,8 @@ use Rattle.listing.proofs.inks.put_escaped.Goals as goal
 pub loop-b-init : goal.loop-b-init
 loop-b-init c = ([], wrote_none _ _, refl)
 
-pub put-escape-n-requires : goal.put-escape-n-requires
-put-escape-n-requires c =
+pub put_escape-n-requires : goal.put_escape-n-requires
+put_escape-n-requires c =
     let line = c.args.line.now in
     let i = c.loop-b.b-index in
     let xs = c.loop-b.invariant.0 in
@@ -30,7 +30,7 @@ loop-b-preserved c =
     let i = c.loop-b.b-index in
     let xs = c.loop-b.invariant.0 in (
       xs ++ escape (get_or line i 0),
-      and_then (omega arith) c.loop-b.invariant.1 c.put-escape-n.ensures,
+      and_then (omega arith) c.loop-b.invariant.1 c.put_escape-n.ensures,
       append_assoc xs (escape (get_or line i 0)) (escaped (drop (i + 1) line))
           ∙ ap (λ e. xs ++ e) (sym (at_drop_more escaped line i 0 c.loop-b-test.true)) ∙ c.loop-b.invariant.2,
     )

@@ -4,6 +4,6 @@ use Rattle.listing.proofs.inks.put_font.Goals as goal
 
 pub returns : goal.returns
 returns c = record {
-  holds = put_mid_lem _ _ _ _ _ c.copy-from-slice.ensures.after (omega arith);
+  holds = put_mid_lem _ _ _ _ _ c.copy_from_slice.ensures.after (omega arith);
   ends = refl;
 }

@@ -1,6 +1,6 @@
 use Rattle.std.proofs.Common.{◌≡◌, ℕ, ◌+◌, ◌≤◌, List, ◌++◌, length}
 use Rattle.text.specs.Writes.{Wrote}
-use Rattle.listing.specs.Inks.{ink_of, shown_lines}
+use Rattle.listing.specs.Inks.{shown_lines}
 use Rattle.listing.specs.Pages.{cut}
 use Rattle.listing.specs.Shapes.{AllWithin}
 use Rattle.listing.proofs.inks.put_ink.Given as goal

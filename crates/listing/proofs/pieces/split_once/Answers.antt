@@ -1,6 +1,5 @@
 use Rattle.std.proofs.Common.{◌≡◌, ◌+◌, ◌-◌, length, take, drop, sym, ap, ◌∙◌, arith, length-drop, length-take}
 use Rattle.std.proofs.lemmas.List.{drop_all, take_all, take_rest}
-use Rattle.text.specs.Searches.{until}
 use Rattle.text.proofs.Searches.{until_le}
 use Rattle.listing.proofs.pieces.split_once.Goals as goal
 
@@ -26,14 +25,14 @@ returns c =
       short = omega (arith, length-take (n - 0) bs, ap length (take_rest bs (n + 1)), length-drop (n + 1) bs, c.before-n.ensures, until_le c.args.separator bs);
     }
 
-pub slice-bounds-result-end-2 : goal.slice-bounds-result-end-2
-slice-bounds-result-end-2 c = omega (arith, c.before-n.ensures, until_le c.args.separator c.args.bytes.now)
+pub slice_bounds-result-end-2 : goal.slice_bounds-result-end-2
+slice_bounds-result-end-2 c = omega (arith, c.before-n.ensures, until_le c.args.separator c.args.bytes.now)
 
-pub overflow-add-result : goal.overflow-add-result
-overflow-add-result c = omega (arith, c.before-n.ensures, until_le c.args.separator c.args.bytes.now)
+pub overflow_add-result : goal.overflow_add-result
+overflow_add-result c = omega (arith, c.before-n.ensures, until_le c.args.separator c.args.bytes.now)
 
-pub slice-bounds-result-count-3 : goal.slice-bounds-result-count-3
-slice-bounds-result-count-3 c = omega (arith, c.before-n.ensures, until_le c.args.separator c.args.bytes.now)
+pub slice_bounds-result-count-3 : goal.slice_bounds-result-count-3
+slice_bounds-result-count-3 c = omega (arith, c.before-n.ensures, until_le c.args.separator c.args.bytes.now)
 
-pub slice-bounds-result-start-3 : goal.slice-bounds-result-start-3
-slice-bounds-result-start-3 c = omega (arith, c.before-n.ensures, until_le c.args.separator c.args.bytes.now)
+pub slice_bounds-result-start-3 : goal.slice_bounds-result-start-3
+slice_bounds-result-start-3 c = omega (arith, c.before-n.ensures, until_le c.args.separator c.args.bytes.now)

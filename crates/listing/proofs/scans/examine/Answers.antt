@@ -1,8 +1,8 @@
-use Rattle.std.proofs.Common.{◌≡◌, ◌+◌, get_or, drop, sym, refl, ap, ◌∙◌, subst, arith}
+use Rattle.std.proofs.Common.{◌≡◌, ◌+◌, get_or, drop, sym, refl, ◌∙◌, subst, arith}
 use Rattle.std.proofs.lemmas.List.{at_drop_all}
 use Rattle.listing.specs.Places.{Within, refusal, top}
 use Rattle.listing.specs.declared.places.Place.{Place}
-use Rattle.listing.proofs.Refusals.{next_none, next_some, sound, within_after}
+use Rattle.listing.specs.Refusals.{next_none, next_some, sound, within_after}
 use Rattle.listing.proofs.scans.examine.Goals as goal
 
 pub returns-in-Some : goal.returns-in-Some
@@ -17,7 +17,7 @@ loop-i-preserved c =
     let i = c.loop-i.i in
     let p = c.loop-i.place in
     let b = get_or file i 0 in
-    let none = sym c.in-default.ensures in
+    let none = sym c.in_default.ensures in
     subst (λ (q : Place). Within q × (refusal q (i + 1) (drop (i + 1) file) ≡ refusal top 0 file)) (sym c.after-place.ensures)
     (within_after p b c.loop-i.invariant.0 (sound p b none), sym (next_none p i file b (omega arith) refl none) ∙ c.loop-i.invariant.1)
 

@@ -1,9 +1,10 @@
-use Rattle.std.proofs.Common.{◌≡◌, ◌+◌, ◌-◌, ◌*◌, ◌≤◌, length, get_or, take, drop, sym, ap, ◌∙◌, subst, arith}
+use Rattle.std.proofs.Common.{◌≡◌, ◌+◌, ◌-◌, ◌*◌, ◌≤◌, length, get_or, take, drop, sym, ◌∙◌, subst, arith}
 use Rattle.listing.specs.Meaning.{page_of}
 use Rattle.listing.specs.Pages.{cut}
 use Rattle.listing.specs.Shapes.{Paged}
-use Rattle.listing.proofs.Bounds.{bounds, none_from}
-use Rattle.listing.proofs.Finding.{index_long, leaf_found, leaf_paged}
+use Rattle.listing.specs.Bounds.{bounds, none_from}
+use Rattle.listing.proofs.Finding.{index_long, leaf_found}
+use Rattle.listing.specs.Lawful.{leaf_paged}
 use Rattle.listing.proofs.reader.Listing.page.Goals as goal
 
 pub bounds-index-i : goal.bounds-index-i
@@ -16,8 +17,8 @@ bounds-index-i-2 c =
     let s = c.args.self.now in
     omega (arith, index_long s.file.now s.index.now s.indexed, s.counted, c.requires.1)
 
-pub slice-bounds-result-end : goal.slice-bounds-result-end
-slice-bounds-result-end c =
+pub slice_bounds-result-end : goal.slice_bounds-result-end
+slice_bounds-result-end c =
     let s = c.args.self.now in
     let f = leaf_found s.file.now s.index.now c.args.leaf s.indexed c.requires.0 (omega (arith, s.counted, c.requires.1)) in
     omega (arith, f.within)

@@ -1,4 +1,4 @@
-use Rattle.std.proofs.Common.{◌≡◌, ℕ, ◌+◌, ◌*◌, ◌≤◌, List, ◌++◌, length, take, drop}
+use Rattle.std.proofs.Common.{◌≡◌, ℕ, ◌+◌, ◌≤◌, List, ◌++◌, length, take, drop}
 use Rattle.listing.specs.Pages.{cut}
 use Rattle.listing.specs.Scans.{file_index, index_from}
 use Rattle.listing.proofs.reader.loading.has_index.Given as goal

@@ -1,8 +1,7 @@
 -- A listing with no fault keeps its bounds.
-use Rattle.std.proofs.Common.{◌≡◌, ℕ, ◌+◌, ◌<◌, ◌≤◌, Bool, true, false, cond, not, eqb, leb, List, [], ◌∷◌, length, get_or, drop, Some, None, Option, sym, refl, ap, ◌∙◌, arith}
+use Rattle.std.proofs.Common.{◌≡◌, ℕ, ◌+◌, ◌<◌, ◌≤◌, Bool, true, false, cond, not, eqb, leb, List, ◌∷◌, length, get_or, drop, Some, None, Option, refl, ap, ◌∙◌, arith}
 use Rattle.std.proofs.lemmas.List.{at_drop_more}
 use Rattle.std.proofs.lemmas.Bool.{cond_both, leb-true}
-use Rattle.pages.specs.declared.faults.Fault.{Fault}
 use Rattle.pages.specs.Limits.{max_pages}
 use Rattle.pages.specs.declared.faults.Refusal.{Refusal}
 use Rattle.pages.specs.declared.faults.Refusal.TheVariants.{BadByte, TooMany, TooLong}

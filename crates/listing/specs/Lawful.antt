@@ -1,23 +1,30 @@
 -- What a listing means is lawful.
-use Rattle.std.proofs.Common.{◌≡◌, ℕ, zero, suc, ◌+◌, ◌*◌, ◌%◌, ◌^◌, ◌<◌, ◌≤◌, Bool, true, false, cond, not, ◌&&◌, eqb, leb, List, [], ◌∷◌, ◌++◌, length, get_or, is_some, codes, decimal, sym, refl, ap, ◌∙◌, subst, arith, lit≤, length-append}
+use Rattle.std.proofs.Common.{◌≡◌, ℕ, zero, suc, ◌+◌, ◌*◌, ◌%◌, ◌^◌, ◌<◌, ◌≤◌, true, false, not, eqb, List, [], ◌∷◌, ◌++◌, length, get_or, is_some, codes, decimal, sym, refl, ap, subst, arith, lit≤, length-append}
 use Rattle.std.proofs.lemmas.Fmt.{decimal_by_steps}
 use Rattle.std.proofs.lemmas.List.{append_assoc}
 use Rattle.std.proofs.lemmas.Bool.{and_from, and_parts, cond_both, cond-false, le-leb, ne_eqb, not_from_false}
 use Rattle.pages.specs.Inks.{Ink, forbidden, last_byte, lines, uncarried, unbroken}
 use Rattle.pages.specs.Limits.{max_ink}
-use Rattle.pages.specs.Maps.{identity}
-use Rattle.pages.specs.Meaning.{Lawful, all_sound}
+use Rattle.pages.specs.Meaning.{Lawful}
 use Rattle.pages.specs.Cuts.{inked-append, inked_none}
 use Rattle.pages.proofs.Lines.{last_push, line_ink}
 use Rattle.listing.specs.Inks.{baseline, escape, escaped, font, ink_of, shown_line, shown_lines, special}
 use Rattle.listing.specs.Meaning.{ink_at, listed, page_of}
-use Rattle.listing.specs.Pages.{cut, onto}
+use Rattle.listing.specs.Pages.{cut}
 use Rattle.listing.specs.Places.{refusal, top}
 use Rattle.listing.specs.Shapes.{AllFree, AllPaged, AllWithin, Paged, free}
-use Rattle.listing.proofs.Bounds.{bounds, none_from}
-use Rattle.listing.proofs.Finding.{leaf_paged}
-use Rattle.listing.proofs.Inking.{escaped_le, length-shown, short_decimal}
-use Rattle.listing.proofs.Parting.{parts_free}
+use Rattle.listing.specs.Bounds.{bounds, none_from}
+use Rattle.listing.specs.Inking.{escaped_le, length-shown, short_decimal}
+use Rattle.listing.specs.Parting.{parts_free}
+
+paged_at : (ps : List (List ℕ)) (i : ℕ) → i < length ps → AllPaged ps → Paged (get_or ps i [])
+paged_at [] i h a = absurd (omega arith)
+paged_at (p ∷ ps) zero h a = a.0
+paged_at (p ∷ ps) (suc i) h a = paged_at ps i (omega arith) a.1
+
+pub leaf_paged : (file : List ℕ) (leaf : ℕ) → AllPaged (cut 12 file) → 1 ≤ leaf → leaf ≤ length (cut 12 file) → Paged (page_of file leaf)
+leaf_paged file zero a l h = absurd (omega arith)
+leaf_paged file (suc i) a l h = paged_at (cut 12 file) i (omega arith) a
 
 lines_short : (i : ℕ) (ls : List (List ℕ)) → i + length ls ≤ 66 → AllWithin 132 ls → length (shown_lines i ls) ≤ 300 * length ls
 lines_short i [] h a = omega arith
@@ -83,8 +90,8 @@ leaf_formed file (suc i) =
     inked-append lines font (shown_lines 0 (cut 10 (page_of file (suc i)))) (record { closed = refl; quiet = (refl, tt) })
     (lines_formed 0 (cut 10 (page_of file (suc i))) (parts_free 10 (page_of file (suc i))))
 
-pub lawful : (file : List ℕ) → is_some (refusal top 0 file) ≡ false → Lawful (listed file)
-lawful file clean =
+pub listed_lawful : (file : List ℕ) → is_some (refusal top 0 file) ≡ false → Lawful (listed file)
+listed_lawful file clean =
     let b = bounds file (none_from _ clean) in
     record {
       wide = (lit≤ tt, lit≤ tt);

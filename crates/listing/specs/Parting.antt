@@ -1,8 +1,8 @@
 -- Bytes are their parts with a separator between each two.
-use Rattle.std.proofs.Common.{◌≡◌, ℕ, Bool, true, false, cond, not, ◌&&◌, eqb, ◌⊎◌, List, [], ◌∷◌, ◌++◌, sym, refl, ap, ◌∙◌, subst, inl, inr, ⊎_elim, arith}
+use Rattle.std.proofs.Common.{◌≡◌, ℕ, false, eqb, ◌⊎◌, List, [], ◌∷◌, ◌++◌, sym, refl, ap, ◌∙◌, subst, inl, inr, ⊎_elim, arith}
 use Rattle.std.proofs.lemmas.Bool.{and_from, cases_Bool, cond-true, cond-false, eqb-true, not_from_false}
 use Rattle.listing.specs.Pages.{cut, onto}
-use Rattle.listing.specs.Shapes.{AllFree, Parted, free, joined}
+use Rattle.listing.specs.Shapes.{AllFree, Parted, joined}
 
 free_onto : (s b : ℕ) (ps : List (List ℕ)) → eqb b s ≡ false → AllFree s ps → AllFree s (onto b ps)
 free_onto s b [] f a = (and_from _ _ (not_from_false _ f) refl, tt)

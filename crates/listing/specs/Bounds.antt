@@ -1,13 +1,13 @@
 -- A listing without a fault keeps its bounds.
-use Rattle.std.proofs.Common.{◌≡◌, ℕ, ◌+◌, ◌<◌, ◌≤◌, Bool, true, false, cond, eqb, List, [], ◌∷◌, length, is_some, Some, None, Option, sym, refl, ap, ◌∙◌, subst, ⊎_elim, arith}
+use Rattle.std.proofs.Common.{◌≡◌, ℕ, ◌+◌, ◌≤◌, true, false, eqb, List, [], ◌∷◌, length, is_some, Some, None, Option, sym, refl, ◌∙◌, subst, ⊎_elim, arith}
 use Rattle.std.proofs.lemmas.Bool.{cases_Bool, cond-true, cond-false}
 use Rattle.pages.specs.declared.faults.Fault.{Fault}
 use Rattle.pages.specs.declared.faults.Refusal.{Refusal}
 use Rattle.listing.specs.Pages.{cut, onto}
 use Rattle.listing.specs.Places.{Within, after, fault_at, or_fault, refusal, top}
-use Rattle.listing.specs.Shapes.{AllPaged, AllWithin, Paged}
+use Rattle.listing.specs.Shapes.{AllPaged, AllWithin}
 use Rattle.listing.specs.declared.places.Place.{Place}
-use Rattle.listing.proofs.Refusals.{Sound, sound, within_after}
+use Rattle.listing.specs.Refusals.{Sound, sound, within_after}
 
 -- the lines that are left of a page, where the next byte is number c of line l
 abbrev Rest : ℕ → ℕ → List (List ℕ) → Type 0

@@ -1,7 +1,7 @@
 -- Lengths and forms of the ink of a listed page.
-use Rattle.std.proofs.Common.{◌≡◌, ℕ, ◌+◌, ◌*◌, ◌^◌, ◌<◌, ◌≤◌, Bool, true, false, cond, List, [], ◌∷◌, ◌++◌, length, codes, decimal, sym, refl, ap, ◌∙◌, subst, arith, length-append}
+use Rattle.std.proofs.Common.{◌≡◌, ℕ, ◌+◌, ◌*◌, ◌≤◌, true, false, cond, List, [], ◌∷◌, ◌++◌, length, codes, decimal, arith, length-append}
 use Rattle.std.proofs.lemmas.Fmt.{length-decimal-le}
-use Rattle.listing.specs.Inks.{baseline, escape, escaped, ink_of, font, shown_line, shown_lines, special}
+use Rattle.listing.specs.Inks.{baseline, escape, escaped, shown_line, special}
 
 escape_le : (b : ℕ) → length (escape b) ≤ 2
 escape_le b = elim (special b) as (λ t. length (cond t (92 ∷ b ∷ []) (b ∷ [])) ≤ 2) [ true ↦ omega arith | false ↦ omega arith ]
