@@ -1,15 +1,13 @@
 -- What is printed has the form of an ink.
-use Rattle.std.proofs.Common.{◌≡◌, ℕ, zero, suc, ◌+◌, ◌-◌, ◌*◌, ◌/◌, ◌%◌, ◌^◌, ◌<◌, ◌≤◌, Bool, true, false, cond, not, ◌&&◌, ◌||◌, eqb, leb, List, [], ◌∷◌, ◌++◌, length, take, ℤ, pos, negsuc, codes, decimal, sym, refl, ap, ◌∙◌, subst, arith}
+use Rattle.std.proofs.Common.{◌≡◌, ℕ, zero, suc, ◌+◌, ◌-◌, ◌*◌, ◌%◌, ◌^◌, ◌<◌, ◌≤◌, Bool, true, false, not, ◌&&◌, ◌||◌, eqb, List, [], ◌∷◌, ◌++◌, length, take, ℤ, pos, negsuc, codes, decimal, sym, refl, ap, subst, arith}
 use Rattle.std.specs.Fmt.{signed_decimal}
-use Rattle.std.specs.List.{flat_map}
 use Rattle.std.specs.Str.{bytes_eq}
 use Rattle.std.proofs.lemmas.Fmt.{decimal_by_steps}
 use Rattle.std.proofs.lemmas.Bool.{and_parts, and_from, cond_both, cond-true, leb-true, not-true}
 use Rattle.std.proofs.lemmas.Bool.Decides.{nat_tests}
 use Rattle.pages.specs.Inks.{Ink, lines, unbroken, forbidden, uncarried, shorter, last_byte}
-use Rattle.pages.specs.Limits.{max_ratio, max_turn}
 use Rattle.pages.specs.Maps.{fits, near}
-use Rattle.pages.specs.Meaning.{Meaning, Lawful, all_sound, sound}
+use Rattle.pages.specs.Meaning.{Meaning, Lawful, all_sound}
 use Rattle.pages.specs.declared.maps.Map.{Map}
 use Rattle.pages.specs.declared.maps.Placement.{Placement}
 use Rattle.pages.specs.Cuts.{inked-append, inked_none}

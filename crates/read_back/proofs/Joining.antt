@@ -1,5 +1,5 @@
 -- The text of a book is the file of a job, and reads back.
-use Rattle.std.proofs.Common.{◌≡◌, ℕ, zero, suc, ◌+◌, ◌<◌, ◌≤◌, List, [], ◌∷◌, ◌++◌, map, length, codes, decimal, sym, refl, ap, ◌∙◌, subst, append_assoc, arith}
+use Rattle.std.proofs.Common.{◌≡◌, ℕ, zero, suc, ◌+◌, ◌≤◌, List, ◌++◌, map, length, codes, decimal, sym, refl, ap, ◌∙◌, subst, append_assoc, arith}
 use Rattle.std.specs.List.{range_with_len, flat_map}
 use Rattle.std.proofs.lemmas.List.FromFn.{length-map-range_with_len}
 use Rattle.std.proofs.lemmas.List.{append_cancel_left}
@@ -10,14 +10,13 @@ use Rattle.pages.specs.declared.maps.Size.{Size}
 use Rattle.layers.specs.Layering.{layered}
 use Rattle.layers.specs.declared.extent.Extent.{Extent}
 use Rattle.layers.specs.Showing.{lawful_layered}
-use Rattle.signature.specs.Imposing.{positions, side_parts, side_size, sides_of}
+use Rattle.signature.specs.Imposing.{side_parts, side_size, sides_of}
 use Rattle.sides.specs.Laws.{Accepted}
-use Rattle.sides.specs.Texts.{blocks_of, ending_text, head_text, line, opening_of, page_line, position_text, showpage, side_text}
+use Rattle.sides.specs.Texts.{blocks_of, ending_text, head_text, line, page_line, showpage, side_text}
 use Rattle.sides.proofs.Showing.{sides_as_shown}
 use Rattle.dsc.specs.Bounds.{longest}
-use Rattle.dsc.specs.Printed.{AllInk, Job, Shows, ending, opening, page_text, printed, row, sides}
+use Rattle.dsc.specs.Printed.{AllInk, Shows, opening, page_text, printed, row, sides}
 use Rattle.dsc.proofs.Backs.{reads_back}
-use Rattle.runs.specs.Law.{sheets_over}
 use Rattle.books.specs.Books.{book_text}
 use Rattle.read_back.specs.Books.{body_of, BooksReadBack}
 use Rattle.read_back.proofs.Inking.{body_ink}

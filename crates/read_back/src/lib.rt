@@ -1,4 +1,5 @@
 //! What is printed reads back.
+#![tactic(auto)]
 
 ghost use Rattle.read_back.specs.Books.{BooksReadBack};
 
