@@ -1,4 +1,6 @@
 //! The program: arguments, files, messages and output. What matters is in the libraries.
+#![tactic(auto)]
+
 mod answers;
 mod arguments;
 mod call_lines;
