@@ -1,5 +1,7 @@
 //! Scans and loads each file named on the command line, and prints what it holds or why it is refused; the file `stdout`
 //! has what others worked out. The words `--dsc` and `--listing` say how the files after them are read.
+#![tactic(auto)]
+
 use dsc::Dsc;
 use listing::Listing;
 use pages::faults::Fault;
