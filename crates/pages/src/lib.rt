@@ -1,4 +1,5 @@
 //! Page sources: what they mean, the maps by which leaves are placed, and what a refusal carries.
+#![tactic(auto)]
 
 pub mod faults;
 pub mod inks;
