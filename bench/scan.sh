@@ -25,7 +25,7 @@ awk 'BEGIN {
 }' > "$work/book.txt"
 
 "$root/booklet" --version > /dev/null   # builds the program if need be
-program=$root/target/bin/booklet
+program=$root/crates/booklet/out/booklet
 
 # The least time of several rounds, in milliseconds.
 least() {

@@ -25,16 +25,14 @@ pub enum Failure {
     OutOfMemory,
 }
 
-/// What an option takes.
+/// What is wanted of an option.
 fn wanted(option: &str) -> &'static str {
     match option {
-        "--select" => "--select A-B, two page numbers, or --select A,B-C,..; 0-0 is a blank page",
-        "--pad" => "--pad M, a whole number from 1 to 512",
-        "--turn" => "--turn Q, a number of quarter turns from 0 to 3",
-        "--reduce" => "--reduce N/D, two whole numbers from 1 to 1000, N at most D",
-        "--signature" => "--signature SCHEME SHEETS, a scheme from 1 to 5 and 1 to 16 sheets",
-        "--plan-room" => "--plan-room R, a number of records",
-        _ => "the name of a file, or -",
+        "--select" | "--pad" | "--turn" | "--reduce" | "--signature" => {
+            "are --select A-B, --pad M, --turn Q, --reduce N/D, --signature SCHEME SHEETS with whole numbers"
+        }
+        "--plan-room" => "is --plan-room R, a number of records",
+        _ => "is the name of a file, or -",
     }
 }
 
@@ -65,7 +63,7 @@ impl fmt::Display for Failure {
                 let wanted = wanted(option.as_str());
                 write!(
                     f,
-                    "{option}: the value {value:?} cannot be read; wanted is {wanted}"
+                    "{option}: the value {value:?} cannot be read; wanted {wanted}"
                 )
             }
             Failure::NoSignature(command) => write!(

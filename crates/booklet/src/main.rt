@@ -20,6 +20,7 @@ use crate::piles::Task;
 use arguments::Command;
 use failure::Failure;
 use std::env;
+use std::process::ExitCode;
 
 fn carry_out(rt: &HostRuntime, command: Command) -> Result<(), Failure> {
     match command {
@@ -76,12 +77,11 @@ fn run(rt: &HostRuntime) -> Result<(), Failure> {
 }
 
 /// Every failure is one line on standard error and status 1.
-fn main(rt: HostRuntime) -> Result<(), Failure> {
-    match run(&rt) {
-        Ok(()) => Ok(()),
-        Err(failure) => {
-            eprintln!(rt; "booklet: {failure}")?;
-            Err(failure)
-        }
-    }
+fn main(rt: HostRuntime) -> ExitCode {
+    let Err(failure) = run(&rt) else {
+        return ExitCode::SUCCESS;
+    };
+    // where standard error cannot be written either, the status alone tells
+    let _told = eprintln!(rt; "booklet: {failure}").is_ok();
+    ExitCode::FAILURE
 }

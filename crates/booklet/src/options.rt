@@ -267,7 +267,10 @@ pub fn read_options(heap: Global, command: Layered, words: &[String]) -> Result<
             return Err(Failure::UnknownOption(command.name(), String::from_str(heap, text)?));
         }
         match kind {
-            Word::Help => options.wants_help = true,
+            Word::Help => {
+                options.wants_help = true;
+                return Ok(options);
+            }
             Word::Listing => options.is_listing = true,
             Word::Name => options.take_file(heap, command.name(), text)?,
             _ => {
