@@ -3,3 +3,4 @@ pub mod Order
 pub mod Masks
 pub mod Steps
 pub mod Spelling
+pub mod Places
