@@ -1,10 +1,11 @@
 -- The bounds keep the numbers of a composed map within 64 bits.
-use Rattle.std.proofs.Common.{◌≡◌, ℕ, zero, suc, ◌+◌, ◌*◌, ◌%◌, ◌<◌, ◌≤◌, true, false, ℤ, pos, negsuc, ◌+ℤ◌, ◌*ℤ◌, neg_ℤ, ◌≤ℤ◌, ◌⊎◌, inl, inr, sym, ap, ◌∙◌, subst, arith, w64, SFits, to_z, of_z}
+use Rattle.std.proofs.Common.{◌≡◌, ℕ, zero, suc, ◌+◌, ◌*◌, ◌%◌, ◌<◌, ◌≤◌, true, false, ℤ, pos, negsuc, ◌+ℤ◌, ◌*ℤ◌, neg_ℤ, ◌≤ℤ◌, ◌⊎◌, inl, inr, Some, sym, ap, ◌∙◌, subst, arith, w64, SFits, to_z, of_z}
 use Rattle.std.proofs.lemmas.Int.{ints, to_z-of_z, to_z_pos}
+use Rattle.std.proofs.lemmas.Bool.{cond-true, and_from}
 use Rattle.std.proofs.lemmas.Nat.{mul-le}
 use Rattle.pages.specs.declared.maps.Map.{Map}
 use Rattle.pages.specs.Limits.{max_turn, max_ratio, max_vector}
-use Rattle.pages.specs.Maps.{near, turned, fits, followed}
+use Rattle.pages.specs.Maps.{near, turned, fits, followed, composed}
 
 -- what a map that fits keeps
 pub record Fit (m : Map) : Type 0 where
@@ -22,6 +23,10 @@ fit m h = record { quarter = grind arith; one = grind arith; ratio = grind arith
 pub far : (m : Map) → max_ratio < m.den ⊎ max_ratio < m.num → fits m ≡ false
 far m (inl h) = grind arith
 far m (inr h) = grind arith
+
+-- what composing two maps that fit answers, if the composed map fits
+pub composed_some : (t u : Map) → fits t ≡ true → fits u ≡ true → fits (followed t u) ≡ true → Some (followed t u) ≡ composed t u
+composed_some t u ht hu h = sym (cond-true _ _ _ (and_from _ _ (and_from _ _ ht hu) h))
 
 -- whole numbers between -n and n
 record Bounded (n : ℕ) (z : ℤ) : Type 0 where
