@@ -9,5 +9,3 @@ pub mod Spans
 pub mod Meaning
 pub mod LeafPages
 pub mod Specimen
-pub mod Cuts
-pub mod SpecimenSourceLemmas

@@ -1,6 +1,6 @@
 //! Maps of the plane, placements of leaves, and sizes.
 
-ghost use Rattle.std.specs.Prelude.{◌≡◌, ◌≤◌, true, pos, ◌+ℤ◌, ◌*ℤ◌, if◌then◌else◌, Some, None};
+ghost use Rattle.std.specs.Prelude.{◌≡◌, ◌≤◌, true, pos, ◌+ℤ◌, ◌*ℤ◌, if◌then◌else◌, ◌&&◌, Some, None};
 ghost use Rattle.pages.specs.Limits.{max_turn, max_ratio};
 ghost use Rattle.pages.specs.Maps.{near, fits, turned, identity, followed, composed, MapsCompose};
 ghost use Rattle.pages.specs.Texts.{map_text, size_text};
@@ -96,16 +96,21 @@ impl Map {
         }
     }
 
+    // Whether the vector keeps its bounds.
+    fn is_near(self) -> bool
+        ensures { result ≡ (near self.x && near self.y) }
+    {
+        near(self.x) && near(self.y)
+    }
+
     /// Whether the map keeps the bounds of every map.
     pub fn fits(self) -> bool
         ensures { result ≡ fits self }
     {
-        (self.turn <= MAX_TURN)
-            & (1 <= self.num)
-            & (self.num <= self.den)
-            & (self.den <= MAX_RATIO)
-            & near(self.x)
-            & near(self.y)
+        self.turn <= MAX_TURN
+            && (1..=self.den).contains(&self.num)
+            && self.den <= MAX_RATIO
+            && self.is_near()
     }
 
     // This map followed by the other, of two that fit.
@@ -115,19 +120,14 @@ impl Map {
         ensures { result ≡ (if fits (followed self other) then Some (followed self other) else None) }
     {
         let (x, y) = turned(other.turn, self.x, self.y);
-        let num = self.num as u64 * other.num as u64;
-        let den = self.den as u64 * other.den as u64;
-        if den > MAX_RATIO as u64 {
-            return None;
-        }
         let both = Map {
             turn: (self.turn + other.turn) % 4,
-            num: num as u32,
-            den: den as u32,
+            num: self.num.checked_mul(other.num)?,
+            den: self.den.checked_mul(other.den)?,
             x: scaled(other.num, x, self.den, other.x),
             y: scaled(other.num, y, self.den, other.y),
         };
-        if both.fits() { Some(both) } else { None }
+        both.fits().then_some(both)
     }
 
     /// This map followed by the other; None where one of the three leaves the bounds.
