@@ -1,0 +1,4 @@
+use Rattle.job.proofs.texts.none.Goals as goal
+
+pub returns : goal.returns
+returns c = ?
