@@ -13,8 +13,8 @@ use Rattle.layers.specs.Orders.{objection}
 use Rattle.layers.specs.Selecting.{max_ranges, counting_down, pages_of, all_pages_of, selected, page_or_blank, select_shows, half_blank, missing, ranges_object, select_objects, SelectTaken}
 use Rattle.layers.specs.declared.extent.Extent.{Extent}
 use Rattle.layers.specs.declared.ranges.Range.{Range}
-use Rattle.layers.specs.Showing.{in_range}
-use Rattle.layers.specs.Slots.{drop-none}
+use Rattle.layers.proofs.Showing.{in_range}
+use Rattle.layers.proofs.Slots.{drop-none}
 
 length-counting_down : (a n : ℕ) → length (counting_down a n) ≡ n
 length-counting_down a zero = refl

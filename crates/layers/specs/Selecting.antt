@@ -1,6 +1,6 @@
 -- The Select layer: ranges of pages, one after another.
 use Rattle.std.specs.Prelude.{◌≡◌, ℕ, zero, suc, ◌+◌, ◌-◌, Bool, cond, not, ◌&&◌, List, [], ◌∷◌, ◌++◌, length, Some, None, Option, ◌==◌, nat_le, slice_index}
-use Rattle.std.specs.List.{range_with_len}
+use Rattle.std.specs.List.{flat_map, range_with_len}
 use Rattle.pages.specs.Limits.{max_pages}
 use Rattle.pages.specs.Meaning.{Meaning, size_of}
 use Rattle.pages.specs.declared.faults.Refusal.TheVariants.{BadOrder, NoSuch, TooMany}
@@ -24,8 +24,7 @@ abbrev pub pages_of : Range → List ℕ
 pages_of r = cond (nat_le r.first r.last) (range_with_len r.first (r.last - r.first + 1)) (counting_down r.first (r.first - r.last + 1))
 
 abbrev pub all_pages_of : List Range → List ℕ
-all_pages_of [] = []
-all_pages_of (r ∷ rs) = pages_of r ++ all_pages_of rs
+all_pages_of = flat_map pages_of
 
 -- of n pages, those that are selected; with no range so far, all
 abbrev pub selected : List Range → ℕ → List ℕ

@@ -1,10 +1,10 @@
 -- Lists of placements by their slots, and lists by their indices.
-use Rattle.std.specs.Prelude.{◌≡◌, ℕ, zero, suc, ◌-◌, ◌<◌, ◌≤◌, List, [], ◌∷◌, ◌++◌, map, length, take, drop, Some, None, refl}
-use Rattle.std.proofs.Common.{ap, ◌∙◌, arith}
+use Rattle.std.specs.Prelude.{◌≡◌, ℕ, zero, suc, ◌+◌, ◌-◌, ◌<◌, ◌≤◌, Option, MatchOption, List, [], ◌∷◌, ◌++◌, map, length, take, drop, Some, None, refl}
+use Rattle.std.proofs.Common.{sym, ap, ◌∙◌, add-one, arith}
 use Rattle.std.specs.List.{slice_get}
 use Rattle.std.specs.Option.{option_map}
-use Rattle.std.proofs.lemmas.List.{length-take}
-use Rattle.std.proofs.lemmas.Option.{slice_get_past}
+use Rattle.std.proofs.lemmas.List.{length-drop, length-take}
+use Rattle.std.proofs.lemmas.Option.{slice_get-map, slice_get_past}
 use Rattle.pages.specs.Meaning.{slot_at}
 use Rattle.pages.specs.declared.maps.Placement.{Placement}
 
@@ -20,14 +20,15 @@ drop-none [] (suc i) h = refl
 drop-none (y ∷ xs) zero h = let z : ◌≡◌ {A = ℕ} 0 1 = cc in absurd (omega arith)
 drop-none (y ∷ xs) (suc i) h = drop-none xs i h
 
-nth_mapped : (f : Placement → Placement) (ps : List Placement) (i : ℕ) → slice_get (map f ps) i ≡ option_map f (slice_get ps i)
-nth_mapped f [] i = refl
-nth_mapped f (p ∷ ps) zero = refl
-nth_mapped f (p ∷ ps) (suc i) = nth_mapped f ps i
+-- one step over a list
+pub next_part : {X : Type 0} (xs : List X) (i : ℕ) → i < length xs → (r : Option X) → r ≡ slice_get xs i →
+    MatchOption r ((drop i xs ≡ []) × (drop (i + 1) xs ≡ [])) (λ x. drop i xs ≡ x ∷ drop (i + 1) xs)
+next_part xs i h None e = let l = ap length (drop-none xs i (sym e)) in absurd (omega (arith, length-drop i xs))
+next_part {X} xs i h (Some x) e = drop-some xs i x (sym e) ∙ ap (λ (j : ℕ). x ∷ drop j xs) (sym (add-one i))
 
 pub slot_mapped : (f : Placement → Placement) (ps : List Placement) (s : ℕ) → slot_at (map f ps) s ≡ option_map f (slot_at ps s)
 slot_mapped f ps zero = refl
-slot_mapped f ps (suc i) = nth_mapped f ps i
+slot_mapped f ps (suc i) = slice_get-map f ps i
 
 pub slot_none : (s : ℕ) → slot_at [] s ≡ None
 slot_none zero = refl
