@@ -1,7 +1,7 @@
 //! The calls of a job.
 
 ghost use Rattle.fold.specs.Signatures.{letters_of};
-ghost use Rattle.job.specs.Books.{job_book, job_depth, longest, per_side, sheets, sides};
+ghost use Rattle.job.specs.Books.{job_book, job_depth, longest, per_side, sheets, side_printed, sides};
 ghost use Rattle.job.specs.Calls.{cell_at, print_refusal, printing, pullable, pulled, shown_by, start_answer};
 ghost use Rattle.pages.specs.Meaning.{fault, written};
 ghost use Rattle.pages.specs.declared.faults.Refusal.TheVariants.{NoSuch};
@@ -9,7 +9,8 @@ ghost use Rattle.plan.specs.Records.{position_record};
 ghost use Rattle.sides.specs.Texts.{ending_text, opening_of};
 ghost use Rattle.signature.specs.Imposing.{impose_shows};
 ghost use Rattle.std.specs.Option.{option_map};
-ghost use Rattle.std.specs.Prelude.{◌≡◌, ◌+◌, ◌*◌, true, false, length, Some, None, MatchResult};
+ghost use Rattle.std.specs.Prelude.{◌≡◌, ◌+◌, ◌*◌, true, false, length, map, max, Some, None, MatchResult};
+ghost use Rattle.std.specs.List.{fold, range_with_len};
 
 use crate::job::Job;
 use crate::texts::SideText;
@@ -99,16 +100,28 @@ impl<S: Source> Job<S> {
             .map_or(0, |signature| self.layer.pages() as usize * positions(&signature) as usize)
     }
 
+    // How many bytes the text of a side has.
+    fn side_length(&self, side: u32) -> usize
+        ensures { result ≡ length (side_printed (job_book S.meaning self.now) side) }
+    {
+        SideText::of(&self.layer, side).length(self.layer.covered())
+    }
+
+    // The greatest of a length and those of all sides.
+    fn longest_side(&self, least: usize) -> usize
+        ensures { result ≡ fold max least (map (λ i. length (side_printed (job_book S.meaning self.now) (i + 1))) (range_with_len 0 (sides (job_book S.meaning self.now)))) }
+    {
+        (0..self.sides())
+            .map(|before| self.side_length(before + 1))
+            .fold(least, |most, length| most.max(length))
+    }
+
     /// How many bytes the longest text of the book has, be it the opening, a side or the ending: a buffer of so many bytes
     /// has room for each.
     pub fn room(&self) -> usize
         ensures { result ≡ longest (job_book S.meaning self.now) (sides (job_book S.meaning self.now)) }
     {
-        let mut most = opening_length(&self.layer).max(ending_length());
-        for side in 1..=self.sides() {
-            most = most.max(SideText::of(&self.layer, side).length(self.layer.covered()));
-        }
-        most
+        self.longest_side(opening_length(&self.layer).max(ending_length()))
     }
 
     /// Prints the next side: writes its text at the buffer's start, and its records into the plan after those of the sides
