@@ -10,7 +10,7 @@ use text::{Counter, Lent, Sink};
 pub(crate) trait InkSink: Sink {
     /// Takes the ink of a leaf, or answers None where it does not fit. A leaf that there is not has none.
     fn take_ink<S: Source>(&mut self, source: &S, leaf: u32) -> Option<()>
-        ensures { takes self.old (ink_of (S.Source.meaning source.now) leaf) (is_some result) self.new };
+        ensures { Self.takes self.old (ink_of (S.Source.meaning source.now) leaf) (is_some result) self.new };
 }
 
 impl InkSink for Counter {
