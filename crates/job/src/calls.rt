@@ -19,7 +19,7 @@ use layers::rules::Rule;
 use pages::faults::{Fault, Refusal};
 use pages::sources::Source;
 use plan::record::Record;
-use plan::records::{positions, put_records, record};
+use plan::records::{put_records, record};
 use sides::{ending_length, opening_length};
 
 // The next side to print, to which there is no objection.
@@ -34,10 +34,9 @@ fn shown(signature: &Signature, side: u32, row: u32, column: u32) -> Option<Cell
     ensures { result ≡ option_map shown_by (position_record (letters_of signature.now) signature.now.sheets side row column) }
 {
     let entry = record(signature, side, row, column)?;
-    let face = if side % 2 == 1 { Side::One } else { Side::Two };
     let cell = signature.cell(Position {
         sheet: entry.sheet,
-        side: face,
+        side: Side::of(side),
         row,
         column,
     })?;
@@ -74,7 +73,7 @@ impl<S: Source> Job<S> {
         if room < text.length(self.layer.covered()) {
             return Err(Refusal::ShortBuffer);
         }
-        if list < side as usize * positions(&signature) as usize {
+        if list < side as usize * signature.cells() as usize {
             return Err(Refusal::ShortPlan);
         }
         Ok(Next { signature, text })
@@ -97,7 +96,7 @@ impl<S: Source> Job<S> {
         self.layer
             .rule()
             .signature()
-            .map_or(0, |signature| self.layer.pages() as usize * positions(&signature) as usize)
+            .map_or(0, |signature| self.layer.pages() as usize * signature.cells() as usize)
     }
 
     // How many bytes the text of a side has.
@@ -136,7 +135,7 @@ impl<S: Source> Job<S> {
         let next = self
             .next(buffer.len(), plan.len())
             .map_err(|kind| self.refused(kind, 0))?;
-        let before = self.printed as usize * positions(&next.signature) as usize;
+        let before = self.printed as usize * next.signature.cells() as usize;
         let length = next.text.write(self.layer.covered(), buffer).unwrap();
         put_records(&next.signature, next.text.side, plan, before).unwrap();
         self.printed = next.text.side;

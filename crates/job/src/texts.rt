@@ -4,7 +4,7 @@ ghost use Rattle.job.specs.Books.{max_side};
 ghost use Rattle.signature.specs.Imposing.{impose_shows};
 ghost use Rattle.sides.specs.Puts.{Put};
 ghost use Rattle.sides.specs.Texts.{parts_text};
-ghost use Rattle.std.specs.Prelude.{◌≡◌, ◌≤◌, [], length};
+ghost use Rattle.std.specs.Prelude.{◌≡◌, ◌≤◌, length};
 
 use arrayvec::ArrayVec;
 use layers::parts::Part;
@@ -15,12 +15,6 @@ use signature::imposition::Sheets;
 
 /// The most positions that a side has.
 const MAX_POSITIONS: usize = 16;
-
-fn none() -> ArrayVec<Part, MAX_POSITIONS>
-    ensures { result.items ≡ [] }
-{
-    ArrayVec::from_array_in((), [Part { page: 0, map: pages::maps::Map { turn: 0, num: 1, den: 1, x: 0, y: 0 } }; 16])
-}
 
 /// What the text of a side is made of: its number and its positions.
 #[derive(Drop)]
@@ -37,7 +31,7 @@ impl SideText {
     {
         let rule = layer.rule();
         let below = layer.covered();
-        let mut positions = none();
+        let mut positions = ArrayVec::new();
         for index in 0..rule.count(below, side) {
             positions.push(rule.part(below, side, index).unwrap());
         }

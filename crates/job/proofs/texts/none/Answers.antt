@@ -1,4 +1,0 @@
-use Rattle.job.proofs.texts.none.Goals as goal
-
-pub returns : goal.returns
-returns c = ?
