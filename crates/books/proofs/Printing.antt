@@ -9,9 +9,9 @@ use Rattle.pages.specs.Meaning.{Meaning}
 use Rattle.signature.specs.declared.imposition.Scheme.{Scheme}
 use Rattle.sides.specs.Texts.{ending_text, side_text}
 use Rattle.plan.specs.Records.{plan_to}
-use Rattle.runs.specs.Books.{Book, print_refusal}
+use Rattle.runs.specs.Editions.{Edition, print_refusal}
 use Rattle.runs.specs.History.{Answered, Event, calls_of, count}
-use Rattle.runs.specs.Law.{book_of}
+use Rattle.runs.specs.Law.{edition_of}
 use Rattle.runs.specs.Logs.{backwards, event_of, history}
 use Rattle.runs.specs.Replies.{Reply, after, print_reply, reply, reply_to}
 use Rattle.runs.specs.declared.calls.Answer.TheVariants.{Ended, Opened, Printed}
@@ -52,8 +52,8 @@ counting_more i =
 -- ---- the calls of a whole book
 
 module _ (u : Letters) (k : ℕ) (m : Meaning) (room list n : ℕ) (f : Fits u k m room list n) where
-  abbrev b : Book
-  b = book_of u k m
+  abbrev b : Edition
+  b = edition_of u k m
 
   abbrev side : ℕ → List ℕ
   side = side_text u k m
@@ -133,7 +133,7 @@ whole o m u named room list n f x h =
     let k = o.sheets in
     let f' = subst (λ (z : Letters). Fits z k m room list n) same f in
     let es = history x.log in
-    let answered = subst (λ (z : ℕ). Answered (book_of w k m) room z es) h.records (subst (λ (z : ℕ). Answered (book_of w k m) z (length h.plan) es) h.bytes fin.law.answered) in
+    let answered = subst (λ (z : ℕ). Answered (edition_of w k m) room z es) h.records (subst (λ (z : ℕ). Answered (edition_of w k m) z (length h.plan) es) h.bytes fin.law.answered) in
     let t = prints_all w k m room list n f' es fin.calls answered in
     let done : x.printed ≡ n = fin.law.counted ∙ t.counted in
     let all : length (vec_items x.plan) ≡ x.printed * cells w = h.kept ∙ f'.records ∙ ap (λ j. j * cells w) (sym done) in

@@ -11,18 +11,16 @@ use runs::calls::Call;
 use runs::run::Stop;
 use signature::imposition::{Scheme, Sheets};
 use std::alloc::{AllocError, Global};
+use std::iter::{once, repeat_n};
 
 // The calls that print a book from its opening to its ending, each with so many bytes of room.
 fn book_calls(heap: Global, sides: u32, room: usize) -> Result<Vec<Call>, AllocError>
     ensures { IfOk result (λ v. v.items ≡ book_calls sides room) }
 {
-    let mut calls = Vec::new(heap);
-    calls.push(Call::Opening { room })?;
-    for _ in 0..sides {
-        calls.push(Call::Print { room })?;
-    }
-    calls.push(Call::Ending { room })?;
-    Ok(calls)
+    once(Call::Opening { room })
+        .chain(repeat_n(Call::Print { room }, sides as usize))
+        .chain(once(Call::Ending { room }))
+        .collect(heap)
 }
 
 /// Lays a source on sheets and prints the whole book: the opening, every side and the ending.
@@ -32,16 +30,11 @@ pub fn print_book<S: Source + Drop>(heap: Global, source: S, order: Scheme) -> R
     ensures { BookPrinted order (S.Source.meaning source) result }
 {
     let mut layer = Sheets::new(source);
-    if let Err(fault) = layer.order(order) {
-        return Err(Stop::Refused(fault));
-    }
+    layer.order(order)?;
     let job = Job::new(layer);
     let room = job.room();
     let list = job.plan_length();
-    let calls = match book_calls(heap, job.sides(), room) {
-        Ok(calls) => calls,
-        Err(error) => return Err(Stop::NoMemory(error)),
-    };
+    let calls = book_calls(heap, job.sides(), room)?;
     let source = job.take_apart().take_off();
-    carry_out(heap, source, order, calls.as_slice(), room, list)
+    carry_out(heap, source, order, &calls, room, list)
 }

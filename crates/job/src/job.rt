@@ -27,6 +27,13 @@ impl<S: Source> Job<S> {
         self.printed
     }
 
+    /// The Signature layer, whose pages are the sides.
+    pub fn layer(&self) -> &Sheets<S>
+        ensures { result.now ≡ self.now.layer }
+    {
+        &self.layer
+    }
+
     /// Ends the job, which gives back the Signature layer.
     pub fn take_apart(self) -> Sheets<S>
         ensures { result ≡ self.layer }

@@ -6,7 +6,7 @@ ghost use Rattle.std.specs.Prelude.{Some};
 use std::fmt;
 
 /// A position of a side, and what it shows. All numbers but the mark count from 1.
-#[derive(Clone, Copy, PartialEq, Eq, Debug)]
+#[derive(Clone, Copy, PartialEq, Eq, Debug, Default)]
 pub struct Record {
     /// The signature, and the sheet in it.
     pub signature: u32,

@@ -1,4 +1,4 @@
--- A layer whose order was accepted prints the book of the rules.
+-- A layer whose order was accepted prints the edition of the rules.
 use Rattle.std.proofs.Common.{◌≡◌, ℕ, zero, suc, ◌+◌, ◌*◌, ◌<◌, ◌≤◌, min, Bool, true, false, cond, ◌&&◌, ltb, leb, List, [], ◌∷◌, ◌++◌, length, take, drop, Some, None, Ok, Err, Option, sym, refl, ap, ◌∙◌, ⊎_elim, append_assoc, arith}
 use Rattle.std.specs.Option.{option_map, ok_or}
 use Rattle.std.proofs.lemmas.List.{take_at}
@@ -24,9 +24,9 @@ use Rattle.plan.specs.Records.{plan_to, position_record, records_of}
 use Rattle.plan.specs.declared.record.Record.{Record}
 use Rattle.plan.proofs.Fillings.{plans_fold}
 use Rattle.plan.proofs.Plans.{length-records}
-use Rattle.runs.specs.Books.{Book, depth_of, plan_of}
+use Rattle.runs.specs.Editions.{Edition, State, depth_of, plan_of}
 use Rattle.runs.specs.History.{Event, Answered, Stands, count, reach}
-use Rattle.runs.specs.Law.{Law, book_of, sheets_over}
+use Rattle.runs.specs.Law.{Law, edition_of, sheets_over}
 use Rattle.runs.specs.Replies.{reply, reply_by, reply_to, print_reply, text_reply}
 use Rattle.runs.specs.declared.calls.Answer.TheVariants.{Opened, Measured, Number, Placed, Shown}
 use Rattle.runs.specs.declared.calls.Call.{Call}
@@ -45,9 +45,9 @@ module _ (g : Signature) (m : Meaning) (x : Extent) where
   abbrev k : ℕ
   k = g.sheets
 
-  -- the book that a layer prints over m, by a signature and with an extent, whatever they are
-  abbrev pub layer_book : Book
-  layer_book = record {
+  -- the edition that a layer prints over m, by a signature and with an extent, whatever they are
+  abbrev pub layer_edition : Edition
+  layer_edition = record {
     sides = x.pages;
     text = λ s. parts_text m s (side_parts u k m s);
     per = cells u;
@@ -62,7 +62,7 @@ module _ (g : Signature) (m : Meaning) (x : Extent) where
   layer_even p = length-records u k p
 
   module _ (law : Lawful m) (a : Accepted u k m x) (size : x.size ≡ side_size u (size_of m)) where
-    -- ---- what the book is made of
+    -- ---- what the edition is made of
 
     pub text_alike : (s : ℕ) → 1 ≤ s → s ≤ x.pages → parts_text m s (side_parts u k m s) ≡ side_text u k m s
     text_alike s l h = (sides_as_shown u k m law x a s l h).positions
@@ -78,27 +78,27 @@ module _ (g : Signature) (m : Meaning) (x : Extent) where
         ap (λ (z : Dimensions). head_text z.width z.height x.pages ++ m.ink 0) size
         ∙ ap (λ n. head_text (side_size u (size_of m)).width (side_size u (size_of m)).height n ++ m.ink 0) a.sides
 
-    plan_alike : (r : ℕ) → plan_of layer_book r ≡ plan_to u k r
+    plan_alike : (r : ℕ) → plan_of layer_edition r ≡ plan_to u k r
     plan_alike zero = refl
     plan_alike (suc r) = ap (λ z. z ++ records_of u k (suc r)) (plan_alike r)
 
     -- ---- the replies
 
     abbrev d : ℕ
-    d = depth_of layer_book
+    d = depth_of layer_edition
 
     abbrev refusing : ℕ → List ℕ → ℕ → ℕ → ℕ → Option Fault
     refusing sides text room list n =
         cond (leb sides n) (Some (fault Finished d 0)) (cond (ltb room (length text)) (Some (fault ShortBuffer d 0)) (cond (ltb list ((n + 1) * cells u)) (Some (fault ShortPlan d 0)) None))
 
-    print_alike : (room list n : ℕ) → print_reply (layer_book.text (n + 1)) (refusing x.pages (layer_book.text (n + 1)) room list n)
+    print_alike : (room list n : ℕ) → print_reply (layer_edition.text (n + 1)) (refusing x.pages (layer_edition.text (n + 1)) room list n)
         ≡ print_reply (side_text u k m (n + 1)) (refusing (sides_of u k m.pages) (side_text u k m (n + 1)) room list n)
     print_alike room list n =
         ⊎_elim
         (λ (l : n < x.pages). ap (λ t. print_reply t (refusing x.pages t room list n)) (text_alike (n + 1) (omega arith) (omega arith)))
         (λ (l : x.pages ≤ n).
         let done : leb x.pages n ≡ true = le-leb _ _ l in
-        ap (print_reply (layer_book.text (n + 1))) (cond-true _ _ _ done) ∙ sym (ap (print_reply (side_text u k m (n + 1))) (cond-true _ _ _ done)))
+        ap (print_reply (layer_edition.text (n + 1))) (cond-true _ _ _ done) ∙ sym (ap (print_reply (side_text u k m (n + 1))) (cond-true _ _ _ done)))
         (cases_lt n x.pages)
         ∙ ap (λ s. print_reply (side_text u k m (n + 1)) (refusing s (side_text u k m (n + 1)) room list n)) a.sides
 
@@ -114,7 +114,7 @@ module _ (g : Signature) (m : Meaning) (x : Extent) where
         (λ t. ap (λ (ps : List Placement). ok_or (slot_at ps s) (fault NoSuch (deeper m) p)) (page_alike p t))
         ∙ ap (λ n. cond (leb 1 p && leb p n) (ok_or (slot_at (exactly m (side_parts u k m p)) s) (fault NoSuch (deeper m) p)) (Err (fault NoSuch (deeper m) p))) a.sides
 
-    agree : (room list n : ℕ) (c : Call) → reply_to layer_book room list n c ≡ reply_to (book_of u k m) room list n c
+    agree : (room list n : ℕ) (c : Call) → reply_to layer_edition room list n c ≡ reply_to (edition_of u k m) room list n c
     agree room list n (Print most) = print_alike (min most room) list n
     agree room list n (PullBack s) = refl
     agree room list n (Opening most) = ap (λ t. text_reply Opened t d (min most room)) opening_alike
@@ -132,19 +132,21 @@ module _ (g : Signature) (m : Meaning) (x : Extent) where
 
     -- ---- the law
 
-    answered_alike : (room list : ℕ) (es : List Event) → Answered layer_book room list es → Answered (book_of u k m) room list es
+    answered_alike : (room list : ℕ) (es : List Event) → Answered layer_edition room list es → Answered (edition_of u k m) room list es
     answered_alike room list [] h = tt
     answered_alike room list (e ∷ es) h = (h.0 ∙ agree room list (count es) e.call, answered_alike room list es h.1)
 
-    pub law_of : {b₀ : List ℕ} {p₀ : List Record} {n : ℕ} {b : List ℕ} {p : List Record} {es : List Event} → Stands layer_book b₀ p₀ n b p es → Law u k m b₀ p₀ n b p es
-    law_of {b₀} {p₀} {n} {b} {p} {es} st =
+    pub law_of : {b₀ : List ℕ} {p₀ : List Record} {x' : State} {es : List Event} → Stands layer_edition b₀ p₀ x' es → Law u k m b₀ p₀ x'.printed x'.buffer x'.plan es
+    law_of {b₀} {p₀} {x'} {es} st =
+        let n = x'.printed in
+        let p = x'.plan in
         let le : n ≤ reach es = omega (arith, count_reach es, st.counted) in
         let few : n ≤ x.pages = omega (arith, st.within) in
-        let front = plan_front layer_book layer_even n (reach es) le in
-        let begins : p ≡ plan_of layer_book n ++ (front.0 ++ drop (reach es * cells u) p₀) =
-        st.filled ∙ ap (λ z. z ++ drop (reach es * cells u) p₀) front.1 ∙ append_assoc (plan_of layer_book n) front.0 (drop (reach es * cells u) p₀) in
+        let front = plan_front layer_edition layer_even n (reach es) le in
+        let begins : p ≡ plan_of layer_edition n ++ (front.0 ++ drop (reach es * cells u) p₀) =
+        st.filled ∙ ap (λ z. z ++ drop (reach es * cells u) p₀) front.1 ∙ append_assoc (plan_of layer_edition n) front.0 (drop (reach es * cells u) p₀) in
         let planned : Planned u k n p =
-        ap (take (n * cells u)) begins ∙ take_at (plan_of layer_book n) (front.0 ++ drop (reach es * cells u) p₀) (n * cells u) (length-plan layer_book layer_even n) ∙ plan_alike n in
+        ap (take (n * cells u)) begins ∙ take_at (plan_of layer_edition n) (front.0 ++ drop (reach es * cells u) p₀) (n * cells u) (length-plan layer_edition layer_even n) ∙ plan_alike n in
         record {
           counted = st.counted;
           within = omega (arith, a.sides);

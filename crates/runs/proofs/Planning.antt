@@ -4,7 +4,7 @@ use Rattle.std.proofs.lemmas.List.{take_at, drop_at, drop-drop, append-nil}
 use Rattle.std.proofs.lemmas.Bool.{cases_lt, cases_eq}
 use Rattle.pages.specs.Splice.{splice}
 use Rattle.plan.specs.declared.record.Record.{Record}
-use Rattle.runs.specs.Books.{Book, plan_of}
+use Rattle.runs.specs.Editions.{Edition, plan_of}
 
 pub max-left : (a b : ℕ) → b ≤ a → max a b ≡ a
 max-left a b h = omega arith
@@ -23,7 +23,7 @@ splice_after a d x at e =
 splice_over : {X : Type 0} (a x d : List X) (at : ℕ) → length a ≡ at → splice (a ++ (x ++ d)) at x ≡ a ++ (x ++ d)
 splice_over a x d at e = splice_after a (x ++ d) x at e ∙ ap (λ z. a ++ (x ++ z)) (drop_at x d (length x) refl)
 
-module _ (k : Book) (even : (p : ℕ) → length (k.records p) ≡ k.per) where
+module _ (k : Edition) (even : (p : ℕ) → length (k.records p) ≡ k.per) where
   pub length-plan : (n : ℕ) → length (plan_of k n) ≡ n * k.per
   length-plan zero = sym (zero-mul k.per)
   length-plan (suc n) =

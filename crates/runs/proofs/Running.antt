@@ -12,9 +12,9 @@ use Rattle.signature.specs.declared.imposition.Scheme.{Scheme}
 use Rattle.sides.specs.Laws.{Accepted}
 use Rattle.job.specs.Books.{book_of}
 use Rattle.plan.specs.declared.record.Record.{Record}
-use Rattle.runs.specs.Books.{Book}
+use Rattle.runs.specs.Editions.{Edition, State, state}
 use Rattle.runs.specs.History.{Event, Stands, calls_of}
-use Rattle.runs.specs.Jobs.{printed_book}
+use Rattle.runs.specs.Jobs.{edition}
 use Rattle.runs.specs.Law.{Law}
 use Rattle.runs.specs.Logs.{Broken, Kept, Whole}
 use Rattle.runs.specs.Runs.{Finished, Stopped}
@@ -38,20 +38,20 @@ module _ (o : Scheme) (m : Meaning) (law : Lawful m) (rule : Imposition) (x : Ex
         below = subst (λ (z : Option Signature). Below (impose_shows z m) x.pages m) made laid.taken.below;
       }
 
-  stands_law : {b : List ℕ} {p : List Record} {n : ℕ} {b' : List ℕ} {p' : List Record} {es : List Event}
-      → Stands (printed_book (book_of rule.signature m x)) b p n b' p' es → Law (letters_of g) o.sheets m b p n b' p' es
-  stands_law {b} {p} {n} {b'} {p'} {es} st =
-      subst (λ (z : ℕ). Law (letters_of g) z m b p n b' p' es) laid.taken.sheets
+  stands_law : {b : List ℕ} {p : List Record} {y : State} {es : List Event}
+      → Stands (edition (book_of rule.signature m x)) b p y es → Law (letters_of g) o.sheets m b p y.printed y.buffer y.plan es
+  stands_law {b} {p} {y} {es} st =
+      subst (λ (z : ℕ). Law (letters_of g) z m b p y.printed y.buffer y.plan es) laid.taken.sheets
       (law_of g m x law accepted laid.taken.size
-      (subst (λ (z : Option Signature). Stands (printed_book (book_of z m x)) b p n b' p' es) laid.taken.made st))
+      (subst (λ (z : Option Signature). Stands (edition (book_of z m x)) b p y es) laid.taken.made st))
 
-  module _ (k : Book) (same : k ≡ printed_book (book_of rule.signature m x)) {n : ℕ} (new : n ≡ 0) (es : List Event) (none : es ≡ []) {b b' : List ℕ} {p p' : List Record} {n' : ℕ} where
-    from_new : (es' : List Event) → Kept k n b p es n' b' p' es' → Law (letters_of g) o.sheets m b p n' b' p' es'
+  module _ (k : Edition) (same : k ≡ edition (book_of rule.signature m x)) {n : ℕ} (new : n ≡ 0) (es : List Event) (none : es ≡ []) {b : List ℕ} {p : List Record} {y : State} where
+    from_new : (es' : List Event) → Kept k (state n b p) es y es' → Law (letters_of g) o.sheets m b p y.printed y.buffer y.plan es'
     from_new es' kept =
-        stands_law (subst (λ (z : Book). Stands z b p n' b' p' es') same
-        (kept b p (subst (λ (z : ℕ). Stands k b p z b p es) (sym new) (subst (λ (z : List Event). Stands k b p 0 b p z) (sym none) (stands_new k b p)))))
+        stands_law (subst (λ (z : Edition). Stands z b p y es') same
+        (kept b p (subst (λ (z : ℕ). Stands k b p (state z b p) es) (sym new) (subst (λ (z : List Event). Stands k b p (state 0 b p) z) (sym none) (stands_new k b p)))))
 
-    pub finished : {cs : List Call} (es' : List Event) → Whole k n b p es cs n' b' p' es' → Finished o m cs b b' p p' n' es'
+    pub finished : {cs : List Call} (es' : List Event) → Whole k (state n b p) es cs y es' → Finished o m cs b y.buffer p y.plan y.printed es'
     finished {cs} es' h = record {
       word = letters_of g;
       named = laid.taken.word;
@@ -59,11 +59,11 @@ module _ (o : Scheme) (m : Meaning) (law : Lawful m) (rule : Imposition) (x : Ex
       calls = h.calls ∙ ap (λ z. calls_of z ++ cs) none;
     }
 
-    pub stopped : {cs : List Call} (es' : List Event) → Broken k n b p es cs n' b' p' es' → Stopped o m cs b b' p p'
+    pub stopped : {cs : List Call} (es' : List Event) → Broken k (state n b p) es cs y es' → Stopped o m cs b y.buffer p y.plan
     stopped {cs} es' h = record {
       word = letters_of g;
       named = laid.taken.word;
-      count = n';
+      count = y.printed;
       events = h.last ∷ es';
       rest = h.rest;
       law = from_new (h.last ∷ es') h.kept;

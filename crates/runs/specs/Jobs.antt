@@ -1,13 +1,13 @@
--- What a job prints, as a book.
+-- What a job prints, as an edition.
 use Rattle.std.specs.Prelude.{cond, None, nat_le}
 use Rattle.std.specs.Option.{option_map}
 use Rattle.sides.specs.Texts.{ending_text, opening_of}
 use Rattle.job.specs.Books as job
 use Rattle.job.specs.Calls.{record_under, shown_by}
-use Rattle.runs.specs.Books.{Book}
+use Rattle.runs.specs.Editions.{Edition}
 
-abbrev pub printed_book : job.Book → Book
-printed_book b = record {
+abbrev pub edition : job.Book → Edition
+edition b = record {
   sides = job.sides b;
   text = job.side_printed b;
   per = job.per_side b;

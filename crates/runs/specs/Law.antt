@@ -10,7 +10,7 @@ use Rattle.job.specs.Calls.{shown_by}
 use Rattle.plan.specs.Folds.{FoldsUp, Planned}
 use Rattle.plan.specs.Records.{plan_to, position_record, records_of}
 use Rattle.plan.specs.declared.record.Record.{Record}
-use Rattle.runs.specs.Books.{Book}
+use Rattle.runs.specs.Editions.{Edition}
 use Rattle.runs.specs.History.{Event, Answered, buffer_after, count, last_text, reach}
 
 -- what the Signature layer means over m: its pages are the sides, and each shows the placements of its positions' pages, in
@@ -26,9 +26,9 @@ sheets_over u k m = record {
   depth = deeper m;
 }
 
--- the book that is printed
-abbrev pub book_of : Letters → ℕ → Meaning → Book
-book_of u k m = record {
+-- the edition that is printed
+abbrev pub edition_of : Letters → ℕ → Meaning → Edition
+edition_of u k m = record {
   sides = sides_of u k m.pages;
   text = side_text u k m;
   per = cells u;
@@ -58,6 +58,6 @@ pub record Law (u : Letters) (k : ℕ) (m : Meaning) (buffer : List ℕ) (plan :
   -- the map that the layer gives it, and nothing else
   pub shown : (s : ℕ) → 1 ≤ s → s ≤ n → side_text u k m s ≡ side_of_blocks s (blocks_of m ((sheets_over u k m).page s))
   -- every call got the reply that the rules give it after the calls before
-  pub answered : Answered (book_of u k m) (length buffer) (length plan) es
+  pub answered : Answered (edition_of u k m) (length buffer) (length plan) es
   -- and the buffer holds the texts where they were written, one over the other
   pub holds : buffer' ≡ buffer_after buffer es

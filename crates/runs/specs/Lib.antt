@@ -1,4 +1,4 @@
-pub mod Books
+pub mod Editions
 pub mod Replies
 pub mod History
 pub mod Steps

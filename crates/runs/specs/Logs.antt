@@ -1,7 +1,7 @@
 -- A log as a history, and what a run of calls keeps.
 use Rattle.std.specs.Prelude.{◌≡◌, ℕ, List, [], ◌∷◌, ◌++◌, Ok, Err, vec_items, Result}
 use Rattle.plan.specs.declared.record.Record.{Record}
-use Rattle.runs.specs.Books.{Book}
+use Rattle.runs.specs.Editions.{Edition, State}
 use Rattle.runs.specs.History.{Event, event, Stands, calls_of}
 use Rattle.runs.specs.Replies.{reply}
 use Rattle.runs.specs.declared.calls.Call.{Call}
@@ -25,21 +25,21 @@ Noted es e es' (Ok x) = es' ≡ e ∷ es
 Noted es e es' (Err x) = es' ≡ es
 
 -- what stood after the history es, whatever buffer and plan its calls found, stands after es'
-abbrev pub Kept : Book → ℕ → List ℕ → List Record → List Event → ℕ → List ℕ → List Record → List Event → Type 0
-Kept k n b p es n' b' p' es' = (buffer : List ℕ) (plan : List Record) → Stands k buffer plan n b p es → Stands k buffer plan n' b' p' es'
+abbrev pub Kept : Edition → State → List Event → State → List Event → Type 0
+Kept b x es x' es' = (buffer : List ℕ) (plan : List Record) → Stands b buffer plan x es → Stands b buffer plan x' es'
 
 -- the calls cs were carried out and noted
-pub record Whole (k : Book) (n : ℕ) (b : List ℕ) (p : List Record) (es : List Event) (cs : List Call) (n' : ℕ) (b' : List ℕ) (p' : List Record) (es' : List Event) : Type 0 where
-  pub kept : Kept k n b p es n' b' p' es'
+pub record Whole (b : Edition) (x : State) (es : List Event) (cs : List Call) (x' : State) (es' : List Event) : Type 0 where
+  pub kept : Kept b x es x' es'
   pub calls : calls_of es' ≡ calls_of es ++ cs
 
 -- some of the calls cs were carried out, and all of those but the last were noted
-pub record Broken (k : Book) (n : ℕ) (b : List ℕ) (p : List Record) (es : List Event) (cs : List Call) (n' : ℕ) (b' : List ℕ) (p' : List Record) (es' : List Event) : Type 0 where
+pub record Broken (b : Edition) (x : State) (es : List Event) (cs : List Call) (x' : State) (es' : List Event) : Type 0 where
   pub last : Event
   pub rest : List Call
-  pub kept : Kept k n b p es n' b' p' (last ∷ es')
+  pub kept : Kept b x es x' (last ∷ es')
   pub calls : calls_of es ++ cs ≡ calls_of (last ∷ es') ++ rest
 
-abbrev pub Carried : {T E : Type 0} → Book → ℕ → List ℕ → List Record → List Event → List Call → ℕ → List ℕ → List Record → List Event → Result T E → Type 0
-Carried k n b p es cs n' b' p' es' (Ok x) = Whole k n b p es cs n' b' p' es'
-Carried k n b p es cs n' b' p' es' (Err x) = Broken k n b p es cs n' b' p' es'
+abbrev pub Carried : {T E : Type 0} → Edition → State → List Event → List Call → State → List Event → Result T E → Type 0
+Carried b x es cs x' es' (Ok r) = Whole b x es cs x' es'
+Carried b x es cs x' es' (Err r) = Broken b x es cs x' es'

@@ -1,9 +1,9 @@
 -- The one reply that the rules give each call.
-use Rattle.std.specs.Prelude.{ℕ, ◌+◌, ◌-◌, min, Bool, true, false, cond, List, [], length, take, drop, Some, None, Ok, Err, Option, Result, nat_le}
+use Rattle.std.specs.Prelude.{ℕ, ◌+◌, ◌-◌, min, Bool, true, false, cond, List, [], length, Some, None, Ok, Err, Option, Result, nat_le}
 use Rattle.pages.specs.Meaning.{fault, size_of, laid_at, place_at, length_at, pour_at}
 use Rattle.pages.specs.declared.faults.Fault.{Fault}
 use Rattle.pages.specs.declared.faults.Refusal.TheVariants.{ShortBuffer}
-use Rattle.runs.specs.Books.{Book, depth_of, print_refusal, pull_back, cell_at}
+use Rattle.runs.specs.Editions.{Edition, depth_of, print_refusal, pull_back, cell_at}
 use Rattle.runs.specs.declared.calls.Answer.{Answer}
 use Rattle.runs.specs.declared.calls.Answer.TheVariants.{Printed, PulledBack, Opened, Ended, Counted, Shown, Measured, Number, Placed, Poured, Refused}
 use Rattle.runs.specs.declared.calls.Call.{Call}
@@ -38,7 +38,7 @@ pour_reply ink (Ok end) = reply (Poured end) ink
 pour_reply ink (Err f) = reply (Refused f) []
 
 -- the reply to a call where n sides stand printed, the buffer has `room` bytes and the plan list `list` records
-abbrev pub reply_to : Book → ℕ → ℕ → ℕ → Call → Reply
+abbrev pub reply_to : Edition → ℕ → ℕ → ℕ → Call → Reply
 reply_to b room list n (Print most) = print_reply (b.text (n + 1)) (print_refusal b (min most room) list n)
 reply_to b room list n (PullBack s) = pull_reply s (pull_back b n s)
 reply_to b room list n (Opening most) = text_reply Opened b.opening (depth_of b) (min most room)
@@ -53,6 +53,23 @@ reply_to b room list n (Laid p) = reply_by Number (laid_at b.layer p)
 reply_to b room list n (Place p s) = reply_by Placed (place_at b.layer p s)
 reply_to b room list n (Length l) = reply_by Number (length_at b.layer l)
 reply_to b room list n (Pour l at most) = pour_reply (b.layer.ink l) (pour_at b.layer l (min most room) at)
+
+-- how many bytes of the buffer, from its start, a call may use
+abbrev pub room_of : Call → ℕ
+room_of (Print most) = most
+room_of (PullBack s) = 0
+room_of (Opening most) = most
+room_of (Ending most) = most
+room_of HowFar = 0
+room_of (Cell s i j) = 0
+room_of Size = 0
+room_of Leaves = 0
+room_of Pages = 0
+room_of Depth = 0
+room_of (Laid p) = 0
+room_of (Place p s) = 0
+room_of (Length l) = 0
+room_of (Pour l at most) = most
 
 -- where the text of a call begins in the buffer
 abbrev pub start_of : Call → ℕ
@@ -98,7 +115,3 @@ is_print (Number x) = false
 is_print (Placed p) = false
 is_print (Poured end) = false
 is_print (Refused f) = false
-
--- the bytes of a buffer from place i to before place j
-abbrev pub between : List ℕ → ℕ → ℕ → List ℕ
-between b i j = take (j - i) (drop i b)

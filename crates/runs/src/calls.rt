@@ -1,5 +1,8 @@
 //! The calls of a run, and their answers.
 
+ghost use Rattle.std.specs.Prelude.{◌≡◌};
+ghost use Rattle.runs.specs.Replies.{room_of};
+
 use fold::Cell;
 use pages::faults::Fault;
 use pages::maps::{Placement, Size};
@@ -28,6 +31,21 @@ pub enum Call {
     Place { page: u32, slot: u32 },
     Length { leaf: u32 },
     Pour { leaf: u32, at: usize, room: usize },
+}
+
+impl Call {
+    /// How many bytes of the buffer, from its start, the call may use.
+    pub(crate) fn room(&self) -> usize
+        ensures { result ≡ room_of self.now }
+    {
+        match *self {
+            Call::Print { room }
+            | Call::Opening { room }
+            | Call::Ending { room }
+            | Call::Pour { room, .. } => room,
+            _ => 0,
+        }
+    }
 }
 
 /// What a call was answered.

@@ -1,7 +1,7 @@
 //! A job prints.
 
-ghost use Rattle.job.specs.Books.{book_of};
-ghost use Rattle.runs.specs.Jobs.{printed_book};
+ghost use Rattle.job.specs.Books.{book_in};
+ghost use Rattle.runs.specs.Jobs.{edition};
 ghost use Rattle.std.specs.Prelude.{◌≡◌, refl};
 ghost use Rattle.std.proofs.Common.{◌∙◌, ap};
 ghost use Rattle.runs.specs.Jobbing.{even_under};
@@ -10,12 +10,14 @@ use crate::printer::Printer;
 use fold::Cell;
 use job::Job;
 use pages::faults::Fault;
-use pages::maps::{Placement, Size};
 use pages::sources::Source;
 use plan::record::Record;
+use signature::imposition::Sheets;
 
 impl<S: Source> Printer for Job<S> {
-    ghost book = { λ j. printed_book (book_of j.layer.rule.signature (S.Source.meaning j.layer.below) j.layer.extent) };
+    type Sheets = Sheets<S>;
+
+    ghost edition = { λ j. edition (book_in S.meaning j.layer) };
 
     ghost printed = { λ j. j.printed };
 
@@ -25,7 +27,7 @@ impl<S: Source> Printer for Job<S> {
 
     ghost transitive = { λ a b c p q. q ∙ p };
 
-    ghost constant = { λ a b p. ap (λ z. printed_book (book_of z.rule.signature (S.Source.meaning z.below) z.extent)) p };
+    ghost constant = { λ a b p. ap (λ z. edition (book_in S.meaning z)) p };
 
     ghost even = { λ s p. even_under s.layer.rule.signature p };
 
@@ -53,35 +55,7 @@ impl<S: Source> Printer for Job<S> {
         Job::cell(self, side, row, column)
     }
 
-    fn size(&self) -> Size {
-        Job::size(self)
-    }
-
-    fn leaves(&self) -> u32 {
-        Job::leaves(self)
-    }
-
-    fn pages(&self) -> u32 {
-        Job::pages(self)
-    }
-
-    fn depth(&self) -> u8 {
-        Job::depth(self)
-    }
-
-    fn laid(&self, page: u32) -> Result<u32, Fault> {
-        Job::laid(self, page)
-    }
-
-    fn place(&self, page: u32, slot: u32) -> Result<Placement, Fault> {
-        Job::place(self, page, slot)
-    }
-
-    fn length(&self, leaf: u32) -> Result<u32, Fault> {
-        Job::length(self, leaf)
-    }
-
-    fn pour(&self, leaf: u32, buffer: &mut [u8], at: usize) -> Result<usize, Fault> {
-        Job::pour(self, leaf, buffer, at)
+    fn sheets(&self) -> &Sheets<S> {
+        self.layer()
     }
 }

@@ -3,10 +3,10 @@
 #![tactic(auto)]
 
 pub mod calls;
-mod carrying;
 mod done;
 pub mod jobs;
 pub mod log;
 pub mod printer;
 pub mod run;
+mod session;
 mod steps;

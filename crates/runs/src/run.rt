@@ -5,8 +5,8 @@ ghost use Rattle.runs.specs.Runs.{Ran};
 ghost use Rattle.std.specs.Prelude.{◌≡◌, IfOk};
 
 use crate::calls::Call;
-use crate::carrying::carry_out_all;
 use crate::log::Log;
+use crate::session::Session;
 use job::Job;
 use pages::faults::Fault;
 use pages::sources::Source;
@@ -28,6 +28,26 @@ pub enum Stop {
     NoMemory(AllocError),
 }
 
+impl From<Fault> for Stop {
+    ghost use Rattle.runs.specs.declared.run.Stop.{Stop};
+
+    ghost from_gives = { λ f s. s ≡ Stop.Refused f };
+
+    fn from(fault: Fault) -> Stop {
+        Stop::Refused(fault)
+    }
+}
+
+impl From<AllocError> for Stop {
+    ghost use Rattle.runs.specs.declared.run.Stop.{Stop};
+
+    ghost from_gives = { λ e s. s ≡ Stop.NoMemory e };
+
+    fn from(error: AllocError) -> Stop {
+        Stop::NoMemory(error)
+    }
+}
+
 /// Puts a Signature layer on a source, orders it, and carries out the calls with a job over it. Each call may use the
 /// buffer, and each print the plan list, whatever they hold; each answer and each text is kept in the log.
 ///
@@ -45,13 +65,14 @@ pub fn run<S: Source + Drop>(
     ensures over { IfOk result (λ x. x.job.layer.below ≡ source) }
 {
     let mut layer = Sheets::new(source);
-    if let Err(fault) = layer.order(order) {
-        return Err(Stop::Refused(fault));
-    }
+    layer.order(order)?;
     let mut job = Job::new(layer);
     let mut log = Log::new(heap);
-    if let Err(error) = carry_out_all(&mut job, calls, buffer, plan, &mut log) {
-        return Err(Stop::NoMemory(error));
-    }
+    let mut session = Session {
+        printer: &mut job,
+        buffer,
+        plan,
+    };
+    session.carry_out_all(calls, &mut log)?;
     Ok(Report { job, log })
 }

@@ -12,7 +12,7 @@ pub returns : goal.returns
 returns g c =
     let meaning = g.S.Source.meaning in
     let m = meaning c.args.source in
-    let o = c.in_default.ensures in
+    let o = c.in_ok-order.ensures in
     let l = c.order.new.self in
     let start = c.new-layer.ensures.0 in
     let laid = subst (λ (z : Meaning). Ordered c.args.order z l.rule l.extent) (ap meaning start) o.2 in
@@ -21,5 +21,5 @@ returns g c =
     c.room-room.result c.plan_length-list.result c.sides.result c.room-room.ensures c.plan_length-list.ensures c.sides.ensures in
     let back = c.take_off-source.ensures ∙ ap (λ z. z.below) (c.take_apart.ensures ∙ c.new-job.ensures.0) ∙ o.0 ∙ start in
     book_printed c.args.order m (letters_of laid.taken.signature) laid.taken.word c.room-room.result c.plan_length-list.result c.sides.result f
-    c.as_slice.result.now (c.as_slice.ensures.value ∙ c.in-Ok.ensures) c.carry_out.result
-    (subst (λ (z : Meaning). CarriedOut c.args.order z c.as_slice.result.now c.room-room.result c.plan_length-list.result c.carry_out.result) (ap meaning back) c.carry_out.ensures)
+    c.deref.result.now (c.deref.ensures.value ∙ c.in_ok-calls.ensures) c.carry_out.result
+    (subst (λ (z : Meaning). CarriedOut c.args.order z c.deref.result.now c.room-room.result c.plan_length-list.result c.carry_out.result) (ap meaning back) c.carry_out.ensures)

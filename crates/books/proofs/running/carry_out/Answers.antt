@@ -24,14 +24,14 @@ carried o m cs room list x b b' p p' n r l k e c h = record {
       (subst (λ (z : ℕ). Finished o m cs b b' p p' z (history x.log)) (sym c) h);
 }
 
-pub returns-in-Ok-run : goal.returns-in-Ok-run
-returns-in-Ok-run g c =
+pub returns : goal.returns
+returns g c =
     let same = c.deref_mut-2.ensures.len in
-    let list = c.in-Ok-plan_of.ensures in
+    let list = c.in_ok-plan.ensures.len in
     let kept : length c.run.new.plan ≡ length c.deref_mut-2.result.now = c.run.auto.plan in
     carried c.args.order (g.S.Source.meaning c.args.source) c.args.calls.now c.args.room c.args.list _
-    c.deref_mut.result.now c.run.new.buffer c.deref_mut-2.result.now c.run.new.plan c.in-Ok-run.field-0.job.printed
-    (c.deref_mut.ensures.len ∙ c.in-Ok.ensures) (same ∙ list) (kept ∙ same ∙ list)
-    (with_items_is c.in-Ok-plan_of.plan c.run.new.plan (kept ∙ same))
+    c.deref_mut.result.now c.run.new.buffer c.deref_mut-2.result.now c.run.new.plan _
+    (c.deref_mut.ensures.len ∙ c.in_ok-buffer.ensures.len) (same ∙ list) (kept ∙ same ∙ list)
+    (with_items_is c.in_ok-plan.plan c.run.new.plan (kept ∙ same))
     c.how_far.ensures
-    c.in-Ok-run.ensures.law
+    c.in_ok-job.ensures.law
