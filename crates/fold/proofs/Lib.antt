@@ -1,4 +1,5 @@
 pub mod Law
+pub mod Alike
 pub mod Order
 pub mod Masks
 pub mod Steps
