@@ -141,7 +141,7 @@ no_blank (suc q) h = refl
 -- with no range, the page at an index, if there is one
 pub all_numbered : (rs : List Range) (n i : ℕ) → length rs ≡ 0 → then_some (ltb i n) (i + 1) ≡ unless_blank (get_or (selected rs n) i 0)
 all_numbered rs n i h = ⊎_elim (λ (l : i < n).
-      ap (λ (b : Bool). then_some b (i + 1)) (lt-ltb i n l) ∙ sym (no_blank (i + 1) (omega arith)) ∙ ap unless_blank (sym (all-selected rs n i h ∙ all-within n i l)))
+    ap (λ (b : Bool). then_some b (i + 1)) (lt-ltb i n l) ∙ sym (no_blank (i + 1) (omega arith)) ∙ ap unless_blank (sym (all-selected rs n i h ∙ all-within n i l)))
     (λ (l : n ≤ i). ap (λ (b : Bool). then_some b (i + 1)) (le-ltb i n l) ∙ ap unless_blank (sym (all-selected rs n i h ∙ all_past n i l))) (cases_lt i n)
 
 pub page_shown : (q : ℕ) → 1 ≤ q → page_or_blank q ≡ whole q ∷ []

@@ -22,9 +22,7 @@ impl Range {
     fn missing(self, pages: u32) -> Option<u32>
         ensures { result ≡ missing (self ∷ []) pages }
     {
-        [self.first, self.last]
-            .into_iter()
-            .find(|end| *end > pages)
+        [self.first, self.last].into_iter().find(|end| *end > pages)
     }
 
     // How many pages the range has.

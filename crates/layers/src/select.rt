@@ -4,12 +4,12 @@ ghost use Rattle.std.specs.Prelude.{◌≡◌, ◌-◌, ◌<◌, ◌≤◌, [], 
 ghost use Rattle.std.specs.Option.{option_to_list};
 ghost use Rattle.layers.specs.Selecting.{SelectStarts, SelectTaken, max_ranges, select_objects, select_shows, selected, unless_blank};
 
-use arrayvec::ArrayVec;
 use crate::extent::Extent;
 use crate::layer::Layer;
 use crate::parts::{Objection, Part};
 use crate::ranges::{Range, first_missing, page_at, total};
 use crate::rules::{Plan, Rule};
+use arrayvec::ArrayVec;
 use pages::faults::Refusal;
 use pages::limits::MAX_PAGES;
 use pages::sources::Source;

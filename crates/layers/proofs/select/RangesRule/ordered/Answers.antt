@@ -68,8 +68,8 @@ returns-in_err-rule g c =
     let n = refused c.added.result c.new-2.result c.in_err-rule.field-0.0 (max_ranges ≤ length rs) _ (sym c.ok_or.ensures.value ∙ c.in_err-rule.was) c.added.ensures in
     let f : max_ranges ≤ length rs = n.0 in
     let o = too_many rs c.args.order m c.of-pages.result.pages c.of-pages.ensures.1 w
-        (moved_to c.ranges-2.result.now rs c.of-pages.result.pages None c.ranges-2.ensures.all c.in_default.ensures)
-        (sym c.in_default-first_missing.ensures) (inl (omega arith)) in
+    (moved_to c.ranges-2.result.now rs c.of-pages.result.pages None c.ranges-2.ensures.all c.in_default.ensures)
+    (sym c.in_default-first_missing.ensures) (inl (omega arith)) in
     let e : c.in_err-rule.field-0.0 ≡ objection TooMany 0 = n.1 ∙ c.new-2.ensures in
     search rules
 
@@ -83,7 +83,7 @@ returns g c =
     let a = added rs c.args.order in
     let was = c.in_ok-rule.was in
     let r : (length rs < max_ranges) × (c.in_ok-rule.rule.given.items ≡ rs ++ c.args.order ∷ []) =
-        given c.added.result c.new-2.result c.in_ok-rule.rule (max_ranges ≤ length rs) _ (sym c.ok_or.ensures.value ∙ c.in_ok-rule.was) c.added.ensures in
+    given c.added.result c.new-2.result c.in_ok-rule.rule (max_ranges ≤ length rs) _ (sym c.ok_or.ensures.value ∙ c.in_ok-rule.was) c.added.ensures in
     let old = moved_to c.ranges-2.result.now rs c.of-pages.result.pages None c.ranges-2.ensures.all c.in_default.ensures in
     let new = sym c.in_default-first_missing.ensures in (
       nothing rs c.args.order m c.of-pages.result.pages c.of-pages.ensures.1 w old new (omega (arith, r.0)) (omega (arith, c.if-pages.false)),
