@@ -70,7 +70,10 @@ impl<S: Source, R: Rule + Drop> Layer<S, R> {
             (λ _. Exact (R.Rule.shows plan.now.rule (S.Source.meaning self.now.below)) plan.now.extent.pages (S.Source.meaning self.now.below))
             (λ e. Barred (R.Rule.shows plan.now.rule (S.Source.meaning self.now.below)) plan.now.extent.pages (S.Source.meaning self.now.below) e) }
     {
-        let view = View { below: &self.below, rule: &plan.rule };
+        let view = View {
+            below: &self.below,
+            rule: &plan.rule,
+        };
         if let Some(page) = view.first_crowded(plan.extent.pages) {
             return Err(Fault::new(Refusal::Crowded, self.depth(), page));
         }

@@ -1,6 +1,6 @@
 //! What a page of a layer is made of, and why an order cannot be taken.
 
-ghost use Rattle.layers.specs.Layering.{moved, part_follows, part_shown};
+ghost use Rattle.layers.specs.Layering.{moved, part_follows, part_shown, whole};
 ghost use Rattle.layers.specs.Orders.{objection};
 ghost use Rattle.pages.specs.Limits.{max_placements};
 ghost use Rattle.pages.specs.Meaning.{slot_at};
@@ -29,6 +29,16 @@ pub fn moved(placement: Placement, map: Map) -> Placement
 }
 
 impl Part {
+    /// A page below as it is.
+    pub fn whole(page: u32) -> Part
+        ensures { result ≡ whole page }
+    {
+        Part {
+            page,
+            map: Map::identity(),
+        }
+    }
+
     // How many placements the part shows.
     pub(crate) fn count<S: Source>(self, below: &S) -> u32
         ensures all { result ≡ length (part_shown (S.Source.meaning below.now) self) }

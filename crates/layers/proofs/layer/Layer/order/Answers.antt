@@ -15,7 +15,7 @@ returns g c =
     let was = c.in_ok-plan.was in
     let p = c.in_ok-plan.ensures in
     let taken : (g.R.Rule.objects c.args.self.now.rule c.args.order m ≡ None)
-        × g.R.Rule.takes c.args.self.now.rule c.args.order m c.in_ok-plan.plan.rule c.in_ok-plan.plan.extent = search rules in
+    × g.R.Rule.takes c.args.self.now.rule c.args.order m c.in_ok-plan.plan.rule c.in_ok-plan.plan.extent = search rules in
     MatchResult-weaker c.lay.result c.lay.ensures
     (λ _ h. (
       h.0,

@@ -20,7 +20,7 @@ pub returns-clause-steps : goal.returns-clause-steps
 returns-clause-steps g c =
     let s = c.self.inside in
     let e = next_placed (g.S.Source.meaning s.source.now) s.page s.slot (g.met.S.Source.lawful s.source.now) c.in_ok-placement.placement
-        (sym (c.ok.ensures.value ∙ ap result_ok c.place.ensures) ∙ c.in_ok-placement.was) in
+    (sym (c.ok.ensures.value ∙ ap result_ok c.place.ensures) ∙ c.in_ok-placement.was) in
     let v = c.self.view_is in
     search rules
 
