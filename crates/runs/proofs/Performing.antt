@@ -11,7 +11,7 @@ use Rattle.pages.specs.declared.faults.Refusal.TheVariants.{ShortBuffer, NoSuch}
 use Rattle.text.proofs.Splices.{splice_none}
 use Rattle.plan.specs.declared.record.Record.{Record}
 use Rattle.job.specs.Calls.{pullable, pulled}
-use Rattle.runs.specs.Editions.{Edition, Prints, State, Writes, depth_of, print_refusal, pull_back, state}
+use Rattle.runs.specs.Editions.{Edition, Prints, Writes, depth_of, print_refusal, pull_back, state}
 use Rattle.runs.specs.Replies.{reply, reply_by, reply_to, print_reply, pull_reply, text_reply, pour_reply, after, is_print, room_of, start_of}
 use Rattle.runs.specs.Steps.{silently, Does, Said}
 use Rattle.runs.specs.declared.calls.Answer.{Answer}

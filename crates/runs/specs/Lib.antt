@@ -6,4 +6,3 @@ pub mod Logs
 pub mod Jobs
 pub mod Law
 pub mod Runs
-pub mod Jobbing

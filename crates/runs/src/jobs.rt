@@ -1,10 +1,11 @@
 //! A job prints.
 
-ghost use Rattle.job.specs.Books.{book_in};
+ghost use Rattle.fold.specs.Signatures.{letters_of};
+ghost use Rattle.job.specs.Books.{book_in, per_under, records_under};
+ghost use Rattle.plan.proofs.Plans.{length-records};
 ghost use Rattle.runs.specs.Jobs.{edition};
-ghost use Rattle.std.specs.Prelude.{◌≡◌, refl};
+ghost use Rattle.std.specs.Prelude.{◌≡◌, length, Some, None, refl};
 ghost use Rattle.std.proofs.Common.{◌∙◌, ap};
-ghost use Rattle.runs.specs.Jobbing.{even_under};
 
 use crate::printer::Printer;
 use fold::Cell;
@@ -29,7 +30,7 @@ impl<S: Source> Printer for Job<S> {
 
     ghost constant = { λ a b p. ap (λ z. edition (book_in S.meaning z)) p };
 
-    ghost even = { λ s p. even_under s.layer.rule.signature p };
+    ghost even = { λ s p. elim s.layer.rule.signature as (λ o. length (records_under o p) ≡ per_under o) [ None ↦ refl | Some g ↦ length-records (letters_of g) g.sheets p ] };
 
     fn print(&mut self, buffer: &mut [u8], plan: &mut [Record]) -> Result<usize, Fault> {
         Job::print(self, buffer, plan)

@@ -61,7 +61,11 @@ impl<'a, P: Printer> Session<'a, P> {
                     .map_or_else(Answer::Refused, Answer::Number),
             ),
             Call::Pour { leaf, at, .. } => {
-                said(at, self.printer.sheets().pour(leaf, front, at), Answer::Poured)
+                said(
+                    at,
+                    self.printer.sheets().pour(leaf, front, at),
+                    Answer::Poured,
+                )
             }
         }
     }

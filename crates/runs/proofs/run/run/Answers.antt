@@ -1,8 +1,6 @@
-use Rattle.std.proofs.Common.{◌≡◌, ℕ, List, ap, ◌∙◌, subst, rules}
+use Rattle.std.proofs.Common.{ap, ◌∙◌, subst, rules}
 use Rattle.pages.specs.Meaning.{Meaning}
 use Rattle.job.specs.Books.{book_in, book_of}
-use Rattle.job.specs.declared.job.Job.{Job}
-use Rattle.plan.specs.declared.record.Record.{Record}
 use Rattle.runs.specs.Jobs.{edition}
 use Rattle.runs.specs.Logs.{history}
 use Rattle.runs.specs.Runs.{Finished, Stopped}

@@ -1,9 +1,9 @@
-use Rattle.std.proofs.Common.{[], refl, ap, ◌∙◌, drop, take, arith, rules}
+use Rattle.std.proofs.Common.{[], refl, ap, ◌∙◌, take, arith, rules}
 use Rattle.pages.specs.Meaning.{Meaning, laid_at, length_at, place_at, size_of}
 use Rattle.runs.specs.Editions.{depth_of}
 use Rattle.runs.specs.Replies.{reply, reply_by}
 use Rattle.runs.specs.declared.calls.Answer.TheVariants.{Counted, Ended, Measured, Number, Opened, Placed, Shown}
-use Rattle.runs.proofs.Performing.{Quiet, asked, asked_by, did, pour_does, print_does, pull_does, text_does}
+use Rattle.runs.proofs.Performing.{asked, asked_by, did, pour_does, print_does, pull_does, text_does}
 use Rattle.runs.proofs.session.Session.perform.Goals as goal
 
 pub returns-in-Print-clause-does : goal.returns-in-Print-clause-does
@@ -117,4 +117,3 @@ returns-in-Pour-clause-does g c =
     let end = c.min-end.result in
     let n = g.P.Printer.printed s.printer.now in
     did c.in-Pour.is b c.pour.new.buffer end (omega (arith, c.min-end.ensures, c.room.ensures)) c.pour.auto.buffer (λ few. pour_does _ c.in-Pour.leaf c.in-Pour.at (take end b) c.pour.new.buffer c.sheets-in-Pour.ensures c.in-Pour.room n s.plan.now c.pour.result c.said-in-Pour.result few c.pour.ensures.answer c.pour.ensures.after c.said-in-Pour.ensures)
-
