@@ -2,10 +2,14 @@
 use crate::calls::Carry;
 use crate::failure::Failure;
 use crate::help;
+use crate::input::{Format, Input};
 use crate::make::Make;
-use crate::options::{Input, Layered, Options, read_options};
+use crate::options::Options;
 use crate::output::Target;
-use fold::Signature;
+use crate::piles::Pile;
+use crate::verb::Verb;
+use fold::{Signature, Word};
+use pages::limits::MAX_PAGES;
 use pile::orders::Order;
 use signature::imposition::Scheme;
 use std::alloc::Global;
@@ -14,182 +18,111 @@ use std::alloc::Global;
 pub enum Command {
     /// A text about the program itself.
     Help(&'static str),
-    Fold {
-        plan: bool,
-        signature: Signature,
-    },
+    Fold { plan: bool, signature: Signature },
     Check(Input),
-    Pages {
-        input: Input,
-        orders: Vec<Order>,
-    },
-    Make {
-        input: Input,
-        orders: Vec<Order>,
-        make: Make,
-    },
-    Calls {
-        input: Input,
-        orders: Vec<Order>,
-        /// The name of the file with the calls.
-        calls: String,
-        carry: Carry,
-    },
+    Pages(Pile),
+    Make { pile: Pile, make: Make },
+    Calls { pile: Pile, carry: Carry },
 }
 
 /// The signature that a scheme and a number of sheets name.
 fn signature(heap: Global, scheme: &str, sheets: &str) -> Result<Signature, Failure> {
-    let Some(word) = fold::Word::scheme(scheme.parse::<u32>().unwrap_or(0)) else {
-        return Err(Failure::NoScheme(String::from_str(heap, scheme)?));
-    };
-    let Some(signature) = Signature::new(word, sheets.parse::<u32>().unwrap_or(0)) else {
-        return Err(Failure::NoSheets(String::from_str(heap, sheets)?));
-    };
-    Ok(signature)
+    let word = scheme
+        .parse::<u32>()
+        .ok()
+        .and_then(Word::scheme)
+        .try_ok_or_else(|| Ok(Failure::NoScheme(String::from_str(heap, scheme)?)))?;
+    sheets
+        .parse::<u32>()
+        .ok()
+        .and_then(|sheets| Signature::new(word, sheets))
+        .try_ok_or_else(|| Ok(Failure::NoSheets(String::from_str(heap, sheets)?)))
 }
 
-/// The words after `fold`.
-fn fold_words(heap: Global, words: &[String]) -> Result<Command, Failure> {
-    let mut plan = false;
-    let mut scheme: Option<&str> = None;
-    let mut sheets: Option<&str> = None;
-    for word in words {
-        let text = word.as_str();
-        if text == "--help" || text == "-h" {
-            return Ok(Command::Help(help::FOLD));
-        }
-        if text == "--plan" {
-            plan = true;
-        } else if text.starts_with('-') {
-            return Err(Failure::UnknownOption("fold", String::from_str(heap, text)?));
-        } else if scheme.is_none() {
-            scheme = Some(text);
-        } else if sheets.is_none() {
-            sheets = Some(text);
-        } else {
-            return Err(Failure::TooManyWords("fold", String::from_str(heap, text)?));
-        }
-    }
-    match (scheme, sheets) {
-        (Some(scheme), Some(sheets)) => Ok(Command::Fold {
-            plan,
-            signature: signature(heap, scheme, sheets)?,
-        }),
-        _ => Err(Failure::TooFewWords(
-            "fold",
+fn fold(heap: Global, plan: bool, names: &[String]) -> Result<Command, Failure> {
+    let [scheme, sheets] = names else {
+        return Err(Failure::TooFewWords(
+            Verb::Fold,
             "a scheme (1 to 5) and a number of sheets (1 to 16)",
-        )),
-    }
+        ));
+    };
+    let signature = signature(heap, scheme.as_str(), sheets.as_str())?;
+    Ok(Command::Fold { plan, signature })
 }
 
-/// The words after `check`.
-fn check_words(heap: Global, words: &[String]) -> Result<Command, Failure> {
-    let mut is_listing = false;
-    let mut name: Option<&str> = None;
-    for word in words {
-        let text = word.as_str();
-        if text == "--help" || text == "-h" {
-            return Ok(Command::Help(help::CHECK));
-        }
-        if text == "--listing" {
-            is_listing = true;
-        } else if text.starts_with('-') && text != "-" {
-            return Err(Failure::UnknownOption("check", String::from_str(heap, text)?));
-        } else if name.is_none() {
-            name = Some(text);
-        } else {
-            return Err(Failure::TooManyWords("check", String::from_str(heap, text)?));
-        }
-    }
-    match name {
-        Some(text) => Ok(Command::Check(Input {
-            is_listing,
-            name: String::from_str(heap, text)?,
-        })),
-        None => Err(Failure::TooFewWords("check", "a file, or - for standard input")),
-    }
+fn input(verb: Verb, format: Format, mut names: Vec<String>) -> Result<Input, Failure> {
+    let name = names.pop().ok_or(Failure::TooFewWords(verb, "a file, or - for standard input"))?;
+    Ok(Input { format, name })
 }
 
 /// The order of the last layer, which has to be the Signature layer, taken off the list.
-fn last_signature(command: Layered, orders: &mut Vec<Order>) -> Result<Scheme, Failure> {
+fn last_scheme(verb: Verb, orders: &mut Vec<Order>) -> Result<Scheme, Failure> {
     match orders.pop() {
         Some(Order::Impose(scheme)) => Ok(scheme),
-        _ => Err(Failure::NoSignature(command.name())),
+        _ => Err(Failure::NoSignature(verb)),
     }
 }
 
-fn target(heap: Global, name: Option<String>) -> Result<Option<Target>, Failure> {
-    match name {
-        Some(word) => Ok(Some(Target::named(heap, word.as_str())?)),
-        None => Ok(None),
-    }
-}
-
-/// The words after `pages`, `make` or `calls`.
-fn layered_words(heap: Global, command: Layered, words: &[String]) -> Result<Command, Failure> {
+/// The command with its options.
+fn with_options(heap: Global, verb: Verb, options: Options) -> Result<Command, Failure> {
     let Options {
-        wants_help,
-        is_listing,
-        name,
+        names,
+        plan_lines,
+        format,
         mut orders,
         output,
         plan,
         calls,
         plan_room,
-    } = read_options(heap, command, words)?;
-    if wants_help {
-        return Ok(Command::Help(help::of(command)));
+    } = options;
+    if verb == Verb::Fold {
+        return fold(heap, plan_lines, names.as_slice());
     }
-    let Some(name) = name else {
-        return Err(Failure::TooFewWords(command.name(), "a file, or - for standard input"));
-    };
-    let input = Input { is_listing, name };
-    if command == Layered::Pages {
-        return Ok(Command::Pages { input, orders });
+    let input = input(verb, format, names)?;
+    if verb == Verb::Check {
+        return Ok(Command::Check(input));
     }
-    let order = last_signature(command, &mut orders)?;
-    let texts = target(heap, output)?;
-    let plan = target(heap, plan)?;
-    if command == Layered::Make {
-        let book = texts.unwrap_or(Target::StandardOutput);
+    if verb == Verb::Pages {
+        return Ok(Command::Pages(Pile { input, orders }));
+    }
+    let order = last_scheme(verb, &mut orders)?;
+    let pile = Pile { input, orders };
+    if verb == Verb::Make {
+        let book = output.unwrap_or(Target::StandardOutput);
         let make = Make { order, book, plan };
-        return Ok(Command::Make {
-            input,
-            orders,
-            make,
-        });
+        return Ok(Command::Make { pile, make });
     }
-    let Some(calls) = calls else {
-        return Err(Failure::TooFewWords("calls", "--calls and a file with a call on each line"));
-    };
+    let file = calls.ok_or(Failure::TooFewWords(
+        verb,
+        "--calls and a file with a call on each line",
+    ))?;
     let carry = Carry {
+        file,
         order,
-        calls: Vec::new(heap),
-        records: plan_room,
-        texts,
+        records: plan_room.unwrap_or(MAX_PAGES as usize),
+        texts: output,
         plan,
     };
-    Ok(Command::Calls {
-        input,
-        orders,
-        calls,
-        carry,
-    })
+    Ok(Command::Calls { pile, carry })
 }
 
 /// The command that the words of the command line name, the program's own name first.
 pub fn read(heap: Global, words: &[String]) -> Result<Command, Failure> {
-    let [_, command, rest @ ..] = words else {
+    let [_, word, rest @ ..] = words else {
         return Err(Failure::NoCommand);
     };
-    match command.as_str() {
-        "-h" | "--help" | "help" => Ok(Command::Help(help::PROGRAM)),
-        "-V" | "--version" => Ok(Command::Help(help::VERSION)),
-        "fold" => fold_words(heap, rest),
-        "check" => check_words(heap, rest),
-        "pages" => layered_words(heap, Layered::Pages, rest),
-        "make" => layered_words(heap, Layered::Make, rest),
-        "calls" => layered_words(heap, Layered::Calls, rest),
-        other => Err(Failure::UnknownCommand(String::from_str(heap, other)?)),
+    let verb = match word.as_str() {
+        "-h" | "--help" | "help" => return Ok(Command::Help(help::PROGRAM)),
+        "-V" | "--version" => return Ok(Command::Help(help::VERSION)),
+        "fold" => Verb::Fold,
+        "check" => Verb::Check,
+        "pages" => Verb::Pages,
+        "make" => Verb::Make,
+        "calls" => Verb::Calls,
+        other => return Err(Failure::UnknownCommand(String::from_str(heap, other)?)),
+    };
+    match Options::read(heap, verb, rest)? {
+        Some(options) => with_options(heap, verb, options),
+        None => Ok(Command::Help(help::of(verb))),
     }
 }

@@ -1,30 +1,76 @@
 //! `booklet calls`: a list of calls, carried out one after the other.
 use crate::answers::Said;
+use crate::call_lines::read_calls;
 use crate::failure::Failure;
-use crate::output::Target;
-use crate::piles::Task;
+use crate::files;
+use crate::output::{Lines, Target, Texts};
+use crate::piles::{Pile, Task};
 use books::carry_out;
 use books::output::Output;
 use fold::{Signature, Word};
-use pages::limits::{MAX_INK, MAX_PAGES};
+use pages::limits::MAX_INK;
 use pages::sources::Source;
 use runs::calls::Call;
+use runs::log::Entry;
 use signature::imposition::Scheme;
 use std::io;
 use std::io::{BufWriter, Write};
 
-/// The most records that a plan has: one for each page.
-const MOST_RECORDS: usize = MAX_PAGES as usize;
-
-/// Carries out calls, and prints their answers.
+/// What is done with a file of calls.
 #[derive(Drop)]
 pub struct Carry {
+    /// The name of the file.
+    pub file: String,
     pub order: Scheme,
-    pub calls: Vec<Call>,
-    /// How many records the plan list has; where nothing is said, as many as any book can need.
-    pub records: Option<usize>,
+    /// How many records the plan list has.
+    pub records: usize,
     pub texts: Option<Target>,
     pub plan: Option<Target>,
+}
+
+impl Carry {
+    /// Carries out the calls over a pile, and prints their answers.
+    pub fn perform(&self, rt: &HostRuntime, pile: &Pile) -> Result<(), Failure> {
+        let text = files::read_text(rt, self.file.as_str())?;
+        let calls = read_calls(rt.alloc(), text.as_str())?;
+        pile.perform(
+            rt,
+            &Carried {
+                carry: self,
+                calls: calls.as_slice(),
+            },
+        )
+    }
+}
+
+#[derive(Drop)]
+struct Carried<'a> {
+    carry: &'a Carry,
+    calls: &'a [Call],
+}
+
+impl<'a> Task for Carried<'a> {
+    fn perform<S: Source + Drop>(&self, rt: &HostRuntime, source: S) -> Result<(), Failure> {
+        let Carry {
+            order,
+            records,
+            texts,
+            plan,
+            file: _,
+        } = self.carry;
+        let room = self.calls.iter().map(room).max().unwrap_or(0);
+        let output = carry_out(rt.alloc(), source, *order, self.calls, room, *records)?;
+        let entries = output.log.entries.as_slice();
+        print_answers(rt, entries)?;
+        if let Some(target) = texts {
+            target.write(rt, &Texts(entries))?;
+        }
+        if let Some(target) = plan {
+            let count = records_of(*order, output.printed).unwrap_or(0);
+            target.write(rt, &Lines(&output.plan[0..count.min(output.plan.len())]))?;
+        }
+        Ok(())
+    }
 }
 
 /// How many bytes of buffer a call can use at most.
@@ -36,53 +82,16 @@ fn room(call: &Call) -> usize {
     }
 }
 
-fn buffer_length(calls: &[Call]) -> usize {
-    let mut most = 0;
-    for call in calls {
-        most = room(call).max(most);
-    }
-    most
+/// How many records the sides that stand printed have; None where the order makes no signature.
+fn records_of(order: Scheme, printed: u32) -> Option<usize> {
+    let signature = Signature::new(Word::scheme(order.number)?, order.sheets)?;
+    Some((printed as usize).saturating_mul(signature.cells() as usize))
 }
 
-/// How many records the sides that stand printed have.
-fn records(order: Scheme, printed: u32) -> usize {
-    let Some(word) = Word::scheme(order.number) else {
-        return 0;
-    };
-    let Some(signature) = Signature::new(word, order.sheets) else {
-        return 0;
-    };
-    (printed as usize).saturating_mul(signature.cells() as usize)
-}
-
-fn print_answers(rt: &HostRuntime, output: &Output) -> io::Result<()> {
+fn print_answers(rt: &HostRuntime, entries: &[Entry]) -> io::Result<()> {
     let mut out = BufWriter::new(rt.alloc(), rt.stdout())?;
-    for entry in output.log.entries.iter() {
-        let answer = Said(entry.answer);
-        writeln!(out, "{answer}")?;
+    for entry in entries {
+        writeln!(out, "{}", Said(entry.answer))?;
     }
     out.flush()
-}
-
-impl Task for Carry {
-    fn perform<S: Source + Drop>(&self, rt: &HostRuntime, source: S) -> Result<(), Failure> {
-        let calls = self.calls.as_slice();
-        let output = carry_out(
-            rt.alloc(),
-            source,
-            self.order,
-            calls,
-            buffer_length(calls),
-            self.records.unwrap_or(MOST_RECORDS),
-        )?;
-        print_answers(rt, &output)?;
-        if let Some(target) = &self.texts {
-            target.write_texts(rt, output.log.entries.as_slice())?;
-        }
-        if let Some(target) = &self.plan {
-            let count = records(self.order, output.printed).min(output.plan.len());
-            target.write_plan(rt, &output.plan[0..count])?;
-        }
-        Ok(())
-    }
 }

@@ -1,12 +1,14 @@
 //! The texts that the program prints about itself.
-use crate::options::Layered;
+use crate::verb::Verb;
 
-/// The text about a command with layers.
-pub fn of(command: Layered) -> &'static str {
-    match command {
-        Layered::Pages => PAGES,
-        Layered::Make => MAKE,
-        Layered::Calls => CALLS,
+/// The text about a command.
+pub fn of(verb: Verb) -> &'static str {
+    match verb {
+        Verb::Fold => FOLD,
+        Verb::Check => CHECK,
+        Verb::Pages => PAGES,
+        Verb::Make => MAKE,
+        Verb::Calls => CALLS,
     }
 }
 
@@ -31,7 +33,7 @@ options:
   -V, --version    print the version
 ";
 
-pub const FOLD: &str = "booklet fold: the sheets of one signature
+const FOLD: &str = "booklet fold: the sheets of one signature
 
 usage: booklet fold [--plan] SCHEME SHEETS
 
@@ -45,7 +47,7 @@ usage: booklet fold [--plan] SCHEME SHEETS
 example: booklet fold 2 1
 ";
 
-pub const CHECK: &str = "booklet check: what a file holds, or where and why it is refused
+const CHECK: &str = "booklet check: what a file holds, or where and why it is refused
 
 usage: booklet check [--listing] FILE
 
@@ -63,7 +65,7 @@ A refused file gets one line on standard error, and status 1:
 example: booklet check book.ps
 ";
 
-pub const PAGES: &str = "booklet pages: what the pages of a file are under some layers
+const PAGES: &str = "booklet pages: what the pages of a file are under some layers
 
 usage: booklet pages [--listing] FILE [LAYER..]
 
@@ -92,7 +94,7 @@ A refusal gets one line on standard error, and status 1:
 example: booklet pages book.ps --select 1-8 --pad 8 --signature 2 1
 ";
 
-pub const MAKE: &str = "booklet make: the whole book, opening, every side and ending
+const MAKE: &str = "booklet make: the whole book, opening, every side and ending
 
 usage: booklet make [--listing] FILE [LAYER..] --signature SCHEME SHEETS [-o OUT] [--plan PLAN]
 
@@ -115,8 +117,7 @@ there, and status 1:
 example: booklet make claims.ps --pad 8 --signature 2 1 -o book.ps --plan book.plan
 ";
 
-pub const CALLS: &str =
-    "booklet calls: a list of calls to a print job, carried out one after the other
+const CALLS: &str = "booklet calls: a list of calls to a print job, carried out one after the other
 
 usage: booklet calls [--listing] FILE [LAYER..] --signature SCHEME SHEETS --calls CALLS
                      [--plan-room R] [-o OUT] [--plan PLAN]

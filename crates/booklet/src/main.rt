@@ -9,16 +9,20 @@ mod check;
 mod failure;
 mod files;
 mod help;
-mod layered;
+mod input;
 mod make;
 mod options;
 mod output;
 mod piles;
 mod show;
+mod values;
+mod verb;
+mod words;
 
-use crate::piles::Task;
 use arguments::Command;
+use check::Check;
 use failure::Failure;
+use show::Show;
 use std::env;
 use std::process::ExitCode;
 
@@ -32,40 +36,10 @@ fn carry_out(rt: &HostRuntime, command: Command) -> Result<(), Failure> {
                 charts::print_sheets(rt, &signature)?;
             }
         }
-        Command::Check(input) => check::check(rt, input.name.as_str(), input.is_listing)?,
-        Command::Pages { input, orders } => layered::pages(
-            rt,
-            input.name.as_str(),
-            input.is_listing,
-            orders.as_slice(),
-        )?,
-        Command::Make {
-            input,
-            orders,
-            make,
-        } => piles::perform(
-            rt,
-            input.name.as_str(),
-            input.is_listing,
-            orders.as_slice(),
-            &make,
-        )?,
-        Command::Calls {
-            input,
-            orders,
-            calls,
-            mut carry,
-        } => {
-            let text = files::read_text(rt, calls.as_str())?;
-            carry.calls = call_lines::read_calls(rt.alloc(), text.as_str())?;
-            piles::perform(
-                rt,
-                input.name.as_str(),
-                input.is_listing,
-                orders.as_slice(),
-                &carry,
-            )?;
-        }
+        Command::Check(input) => input.read(rt, &Check)?,
+        Command::Pages(pile) => pile.perform(rt, &Show)?,
+        Command::Make { pile, make } => pile.perform(rt, &make)?,
+        Command::Calls { pile, carry } => carry.perform(rt, &pile)?,
     }
     Ok(())
 }

@@ -1,11 +1,12 @@
 //! `booklet make`: the whole book.
 use crate::failure::Failure;
-use crate::output::Target;
+use crate::output::{Lines, Target, Texts};
 use crate::piles::Task;
 use books::output::Output;
 use books::print_book;
 use pages::sources::Source;
 use signature::imposition::Scheme;
+use std::fmt;
 
 /// Prints a book and its plan.
 #[derive(Drop)]
@@ -16,30 +17,37 @@ pub struct Make {
 }
 
 /// How many pages of a source show nothing.
-fn blanks<S: Source>(source: &S) -> u32 {
-    let mut count: u32 = 0;
-    for page in 1..=source.pages() {
-        if source.laid(page).unwrap_or(0) == 0 {
-            count = count.saturating_add(1);
-        }
-    }
-    count
+fn blanks<S: Source>(source: &S) -> usize {
+    (1..=source.pages())
+        .filter(|page| source.laid(*page).unwrap_or(0) == 0)
+        .count()
 }
 
-/// What was made, on standard error.
-fn report(
-    rt: &HostRuntime,
+/// What was made.
+#[derive(Drop)]
+struct Made {
     pages: u32,
-    blanks: u32,
-    sheets: u32,
+    blanks: usize,
+    /// The sheets of one signature.
+    thickness: u32,
     sides: u32,
-) -> Result<(), Failure> {
-    let signatures = sides / sheets.saturating_mul(2).max(1);
-    let sheets = sides / 2;
-    eprintln!(rt;
-        "booklet: pages {pages}, blanks {blanks}, signatures {signatures}, sheets {sheets}, sides {sides}"
-    )?;
-    Ok(())
+}
+
+impl fmt::Display for Made {
+    fn fmt<W: fmt::Write>(&self, f: &mut fmt::Formatter<W>) -> fmt::Result {
+        let Made {
+            pages,
+            blanks,
+            thickness,
+            sides,
+        } = self;
+        let sheets = *sides / 2;
+        let signatures = sheets / (*thickness).max(1);
+        write!(
+            f,
+            "pages {pages}, blanks {blanks}, signatures {signatures}, sheets {sheets}, sides {sides}"
+        )
+    }
 }
 
 impl Task for Make {
@@ -47,10 +55,17 @@ impl Task for Make {
         let pages = source.pages();
         let blanks = blanks(&source);
         let Output { log, plan, printed } = print_book(rt.alloc(), source, self.order)?;
-        self.book.write_texts(rt, log.entries.as_slice())?;
+        self.book.write(rt, &Texts(log.entries.as_slice()))?;
         if let Some(target) = &self.plan {
-            target.write_plan(rt, plan.as_slice())?;
+            target.write(rt, &Lines(plan.as_slice()))?;
         }
-        report(rt, pages, blanks, self.order.sheets, printed)
+        let made = Made {
+            pages,
+            blanks,
+            thickness: self.order.sheets,
+            sides: printed,
+        };
+        eprintln!(rt; "booklet: {made}")?;
+        Ok(())
     }
 }

@@ -6,10 +6,22 @@ use runs::log::Entry;
 use std::io::{BufWriter, Write};
 use std::{fs, io};
 
+/// What can be written to a target.
+pub trait Content {
+    fn write<W: Write>(&self, out: &mut W) -> io::Result<()>;
+}
+
+/// The texts of the book that a log has, joined.
 #[derive(Drop)]
-pub enum Target {
-    StandardOutput,
-    File(String),
+pub struct Texts<'a>(pub &'a [Entry]);
+
+impl<'a> Content for Texts<'a> {
+    fn write<W: Write>(&self, out: &mut W) -> io::Result<()> {
+        for entry in self.0.iter().filter(|entry| is_text(&entry.answer)) {
+            out.write_all(entry.text.as_slice())?;
+        }
+        Ok(())
+    }
 }
 
 /// Whether an entry of a log wrote a text of the book: an opening, a side or an ending.
@@ -20,84 +32,58 @@ fn is_text(answer: &Answer) -> bool {
     )
 }
 
-fn put_texts<W: Write>(out: &mut W, entries: &[Entry]) -> io::Result<()> {
-    for entry in entries {
-        if is_text(&entry.answer) {
-            out.write_all(entry.text.as_slice())?;
+/// The lines of a plan.
+#[derive(Drop)]
+pub struct Lines<'a>(pub &'a [Record]);
+
+impl<'a> Content for Lines<'a> {
+    fn write<W: Write>(&self, out: &mut W) -> io::Result<()> {
+        for record in self.0 {
+            writeln!(out, "{record}")?;
         }
+        Ok(())
     }
-    out.flush()
 }
 
-fn put_plan<W: Write>(out: &mut W, records: &[Record]) -> io::Result<()> {
-    for record in records {
-        writeln!(out, "{record}")?;
-    }
-    out.flush()
+#[derive(Drop)]
+pub enum Target {
+    StandardOutput,
+    File(String),
 }
 
 impl Target {
     /// The target that a word of the command line names.
-    pub fn named(heap: std::alloc::Global, word: &str) -> Result<Target, Failure> {
-        if word == "-" {
-            return Ok(Target::StandardOutput);
+    pub fn named(word: String) -> Target {
+        if word.as_str() == "-" {
+            return Target::StandardOutput;
         }
-        Ok(Target::File(String::from_str(heap, word)?))
+        Target::File(word)
     }
 
-    /// Writes the texts of the book that a log has, joined.
-    pub fn write_texts(&self, rt: &HostRuntime, entries: &[Entry]) -> Result<(), Failure> {
+    pub fn write<C: Content>(&self, rt: &HostRuntime, content: &C) -> Result<(), Failure> {
         match self {
             Target::StandardOutput => {
                 let mut out = BufWriter::new(rt.alloc(), rt.stdout())?;
-                unwritten(rt, "standard output", put_texts(&mut out, entries))
+                let written = content.write(&mut out).and_then(|_| out.flush());
+                unwritten(rt, "standard output", written)
             }
             Target::File(name) => {
+                let name = name.as_str();
                 let beside = format!(in rt.alloc(); "{name}.part")?;
-                unwritten(rt, name.as_str(), texts_to(rt, beside.as_str(), entries))?;
-                unwritten(
-                    rt,
-                    name.as_str(),
-                    fs::rename(rt, beside.as_str(), name.as_str()),
-                )
-            }
-        }
-    }
-
-    /// Writes the lines of a plan.
-    pub fn write_plan(&self, rt: &HostRuntime, records: &[Record]) -> Result<(), Failure> {
-        match self {
-            Target::StandardOutput => {
-                let mut out = BufWriter::new(rt.alloc(), rt.stdout())?;
-                unwritten(rt, "standard output", put_plan(&mut out, records))
-            }
-            Target::File(name) => {
-                let beside = format!(in rt.alloc(); "{name}.part")?;
-                unwritten(rt, name.as_str(), plan_to(rt, beside.as_str(), records))?;
-                unwritten(
-                    rt,
-                    name.as_str(),
-                    fs::rename(rt, beside.as_str(), name.as_str()),
-                )
+                unwritten(rt, name, create(rt, beside.as_str(), content))?;
+                unwritten(rt, name, fs::rename(rt, beside.as_str(), name))
             }
         }
     }
 }
 
-fn texts_to(rt: &HostRuntime, name: &str, entries: &[Entry]) -> io::Result<()> {
+fn create<C: Content>(rt: &HostRuntime, name: &str, content: &C) -> io::Result<()> {
     let mut out = BufWriter::new(rt.alloc(), fs::create(rt, name)?)?;
-    put_texts(&mut out, entries)
-}
-
-fn plan_to(rt: &HostRuntime, name: &str, records: &[Record]) -> io::Result<()> {
-    let mut out = BufWriter::new(rt.alloc(), fs::create(rt, name)?)?;
-    put_plan(&mut out, records)
+    content.write(&mut out)?;
+    out.flush()
 }
 
 /// A write that failed, with the name of what could not be written.
-fn unwritten(rt: &HostRuntime, name: &str, res: io::Result<()>) -> Result<(), Failure> {
-    match res {
-        Ok(()) => Ok(()),
-        Err(error) => Err(Failure::Unwritten(String::from_str(rt.alloc(), name)?, error)),
-    }
+fn unwritten(rt: &HostRuntime, name: &str, written: io::Result<()>) -> Result<(), Failure> {
+    written.try_map_err(|error| Ok(Failure::Unwritten(String::from_str(rt.alloc(), name)?, error)))
 }

@@ -1,34 +1,19 @@
 //! A file under layers that are chosen on the command line, and what is done with it.
 use crate::failure::Failure;
-use crate::files;
-use dsc::Dsc;
+use crate::input::{Input, Reader, Reading};
 use layers::layer::Layer;
-use listing::Listing;
 use pages::sources::Source;
 use pile::choice::Choice;
 use pile::orders::Order;
 
 /// What is done with a source once its layers are on.
-pub trait Task {
+pub trait Task: Drop {
     fn perform<S: Source + Drop>(&self, rt: &HostRuntime, source: S) -> Result<(), Failure>;
 }
 
-fn is_select(order: &Order) -> bool {
-    matches!(order, Order::Select(_))
-}
-
-/// How many orders belong to the first layer: one, but neighbouring ones of Select are all of one layer.
-fn first_layer(orders: &[Order]) -> usize {
-    let mut count: usize = 0;
-    let mut selecting = true;
-    for order in orders {
-        if count > 0 && !(selecting && is_select(order)) {
-            break;
-        }
-        selecting = is_select(order);
-        count = count.saturating_add(1);
-    }
-    count
+/// Whether neighbouring orders are of one layer.
+fn share_layer(order: &Order, next: &Order) -> bool {
+    matches!((order, next), (Order::Select(_), Order::Select(_)))
 }
 
 /// A source under a layer that has taken some orders.
@@ -42,11 +27,11 @@ fn covered<S: Source + Drop>(source: S, orders: &[Order]) -> Result<Layer<S, Cho
 
 /// How many layers may still be put on. A type, since each layer makes another type of source.
 trait Room {
-    /// Puts the layers of the orders on a source, and does the task with it.
+    /// Puts layers on a source, each by its orders, and does the task with it.
     fn perform<S: Source + Drop, T: Task>(
         rt: &HostRuntime,
         source: S,
-        orders: &[Order],
+        layers: &[&[Order]],
         task: &T,
     ) -> Result<(), Failure>;
 }
@@ -61,13 +46,13 @@ impl Room for Full {
     fn perform<S: Source + Drop, T: Task>(
         rt: &HostRuntime,
         source: S,
-        orders: &[Order],
+        layers: &[&[Order]],
         task: &T,
     ) -> Result<(), Failure> {
-        if !orders.is_empty() {
-            return Err(Failure::TooManyLayers);
+        match layers {
+            [] => task.perform(rt, source),
+            _ => Err(Failure::TooManyLayers),
         }
-        task.perform(rt, source)
     }
 }
 
@@ -75,60 +60,49 @@ impl<R: Room> Room for OneMore<R> {
     fn perform<S: Source + Drop, T: Task>(
         rt: &HostRuntime,
         source: S,
-        orders: &[Order],
+        layers: &[&[Order]],
         task: &T,
     ) -> Result<(), Failure> {
-        if orders.is_empty() {
-            return task.perform(rt, source);
+        match layers {
+            [] => task.perform(rt, source),
+            [orders, rest @ ..] => R::perform(rt, covered(source, orders)?, rest, task),
         }
-        let count = first_layer(orders).min(orders.len());
-        let (first, rest) = orders.split_at(count);
-        R::perform(rt, covered(source, first)?, rest, task)
     }
 }
 
 /// Eight layers.
 type Eight = OneMore<OneMore<OneMore<OneMore<OneMore<OneMore<OneMore<OneMore<Full>>>>>>>>;
 
-fn with_dsc<'a, T: Task>(
-    rt: &HostRuntime,
-    file: &'a [u8],
-    index: &'a [u32],
-    orders: &[Order],
-    task: &T,
-) -> Result<(), Failure> {
-    let mut reader = Dsc::empty();
-    reader.load(file, index)?;
-    Eight::perform(rt, reader, orders, task)
+/// A file under layers.
+#[derive(Drop)]
+pub struct Pile {
+    pub input: Input,
+    pub orders: Vec<Order>,
 }
 
-fn with_listing<'a, T: Task>(
-    rt: &HostRuntime,
-    file: &'a [u8],
-    index: &'a [u32],
-    orders: &[Order],
-    task: &T,
-) -> Result<(), Failure> {
-    let mut reader = Listing::empty();
-    reader.load(file, index)?;
-    Eight::perform(rt, reader, orders, task)
+impl Pile {
+    /// Reads the file, puts the layers of the orders on it, and does the task with it.
+    pub fn perform<T: Task>(&self, rt: &HostRuntime, task: &T) -> Result<(), Failure> {
+        let layers: Vec<&[Order]> = self.orders.chunk_by(share_layer).collect(rt.alloc())?;
+        let layers = layers.as_slice();
+        self.input.read(rt, &UnderLayers { layers, task })
+    }
 }
 
-/// Reads a file, puts the layers of the orders on it, and does the task with it.
-pub fn perform<T: Task>(
-    rt: &HostRuntime,
-    name: &str,
-    is_listing: bool,
-    orders: &[Order],
-    task: &T,
-) -> Result<(), Failure> {
-    let file = files::read(rt, name)?;
-    let mut index = vec![in rt.alloc(); 0u32; files::INDEX_NUMBERS]?;
-    if is_listing {
-        listing::scan(&file, &mut index)?;
-        with_listing(rt, &file, &index, orders, task)
-    } else {
-        dsc::scan(&file, &mut index)?;
-        with_dsc(rt, &file, &index, orders, task)
+/// A task that is done once layers are on the reader.
+#[derive(Drop)]
+struct UnderLayers<'b, T> {
+    layers: &'b [&'b [Order]],
+    task: &'b T,
+}
+
+impl<'b, T: Task> Reading for UnderLayers<'b, T> {
+    fn perform<R: Reader>(
+        &self,
+        rt: &HostRuntime,
+        reader: R,
+        _index: &[u32],
+    ) -> Result<(), Failure> {
+        Eight::perform(rt, reader, self.layers, self.task)
     }
 }

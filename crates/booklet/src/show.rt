@@ -26,27 +26,21 @@ fn print_page<S: Source>(rt: &HostRuntime, source: &S, page: u32) -> io::Result<
     Ok(())
 }
 
-/// The size, the number of pages, the depth, and every placement of every page.
-pub fn print_source<S: Source>(rt: &HostRuntime, source: &S) -> io::Result<()> {
-    let size = source.size();
-    let (width, height) = (size.width, size.height);
-    let (pages, depth) = (source.pages(), source.depth());
-    println!(rt; "size {width} {height}")?;
-    println!(rt; "pages {pages}")?;
-    println!(rt; "depth {depth}")?;
-    for page in 1..=pages {
-        print_page(rt, source, page)?;
-    }
-    Ok(())
-}
-
-/// Shows the pages.
+/// Prints the size, the number of pages, the depth, and every placement of every page.
 #[derive(Drop)]
 pub struct Show;
 
 impl Task for Show {
     fn perform<S: Source + Drop>(&self, rt: &HostRuntime, source: S) -> Result<(), Failure> {
-        print_source(rt, &source)?;
+        let size = source.size();
+        let (width, height) = (size.width, size.height);
+        let (pages, depth) = (source.pages(), source.depth());
+        println!(rt; "size {width} {height}")?;
+        println!(rt; "pages {pages}")?;
+        println!(rt; "depth {depth}")?;
+        for page in 1..=pages {
+            print_page(rt, &source, page)?;
+        }
         Ok(())
     }
 }
