@@ -1,9 +1,8 @@
 -- Masks and the letters that they hold.
-use Rattle.std.proofs.Common.{◌≡◌, ℕ, zero, suc, ◌+◌, ◌*◌, ◌/◌, ◌%◌, ◌^◌, ◌<◌, [], ◌∷◌, ◌++◌, length, Some, sym, refl, ap, ◌∙◌, mul_assoc, pow-suc, add-one, one-add, arith, lit<, shl_exact}
+use Rattle.std.proofs.Common.{◌≡◌, ℕ, zero, suc, ◌+◌, ◌*◌, ◌/◌, ◌%◌, ◌^◌, ◌<◌, [], ◌∷◌, ◌++◌, length, sym, refl, ap, ◌∙◌, mul_assoc, pow-suc, add-one, arith, lit<, shl_exact}
 use lib.Bits.{bit_or}
 use lib.Count.{ones, ones_step, ones-le}
-use Rattle.std.specs.List.{slice_get}
-use Rattle.std.proofs.lemmas.Nat.{or_shifted, pow-add, shr-shr}
+use Rattle.std.proofs.lemmas.Nat.{or_shifted, pow-add}
 use Rattle.fold.specs.Words.{Letters, columns_of, count_w, count_n, digit_of, letters, of_digit, rows_of}
 use Rattle.fold.specs.declared.letters.Letter.{Letter}
 use Rattle.fold.specs.declared.letters.Letter.TheVariants.{W, N}
@@ -41,18 +40,6 @@ count_ones zero m h = omega (arith, ones-le 0 m h)
 count_ones (suc n) m h =
     let half : m / 2 < 2 ^ n = omega (arith, pow-suc 2 n) in
     count_digit (m % 2) (letters n (m / 2)) (omega arith) ∙ ap (λ x. m % 2 + x) (count_ones n (m / 2) half) ∙ sym (ones_step m)
-
--- ---- one letter of a mask
-
-pub nth_letters : (n m i : ℕ) → i < n → slice_get (letters n m) i ≡ Some (of_digit (m / 2 ^ i % 2))
-nth_letters zero m i h = absurd (omega arith)
-nth_letters (suc n) m zero h =
-    let e : m % 2 ≡ m / 1 % 2 = omega arith in
-    ap (λ d. Some (of_digit d)) e
-nth_letters (suc n) m (suc i) h =
-    nth_letters n (m / 2) i (omega arith)
-    ∙ ap (λ x. Some (of_digit (x % 2))) (shr-shr m 1 i)
-    ∙ ap (λ k. Some (of_digit (m / 2 ^ k % 2))) (one-add i)
 
 -- ---- one letter more
 

@@ -1,5 +1,5 @@
 -- Texts that spell no word.
-use Rattle.std.proofs.Common.{◌≡◌, ℕ, ◌+◌, ◌-◌, ◌<◌, ◌≤◌, ◌≢◌, List, length, get_or, take, drop, true, Result, Ok, Err, sym, ap, ◌∙◌, arith}
+use Rattle.std.proofs.Common.{◌≡◌, ℕ, ◌+◌, ◌-◌, ◌<◌, ◌≤◌, ◌≢◌, List, length, get_or, take, drop, Result, Ok, Err, sym, ap, ◌∙◌, arith}
 use Rattle.std.specs.Result.{IsErr}
 use Rattle.std.proofs.lemmas.List.{length-map, get_or-map, length-take-le, get_or-take, get_or-drop, length-drop}
 use Rattle.fold.specs.Spelled.{Reads, text_of}
@@ -20,11 +20,6 @@ refused text (Err x) e h = h
 pub no_letter : (text : List ℕ) (i : ℕ) → i < length text → ((l : Letter) → code l ≢ get_or text i 0) → NoWord text
 no_letter text i h none u low short e =
     none (get_or u i W) (sym (ap (λ t. get_or t i 0) e ∙ get_or-map code u i W 0 (omega (arith, h, ap length e, length-map u code))))
-
--- it goes on after four letters
-pub too_long : (text : List ℕ) (w : Letters) (i : ℕ) → text_of w ≡ take i text → length w ≡ 4 → i < length text → NoWord text
-too_long text w i spells four more u low short e =
-    omega (arith, more, four, short, ap length e, length-map u code, ap length spells, length-map w code, length-take-le i text (omega (arith, more)))
 
 -- the characters after the first
 abbrev pub others : List ℕ → List ℕ

@@ -85,6 +85,7 @@ impl Iterator for Letters {
 }
 
 impl Letter {
+    // These two are no `From`: users would read every number as a letter.
     /// The letter that a mask's digit stands for.
     pub(crate) fn of_digit(digit: u8) -> Letter
         ensures { result ≡ of_digit digit }

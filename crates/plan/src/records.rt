@@ -1,4 +1,7 @@
 //! The records of a side, one by one and written into a plan.
+//!
+//! A signature and a side are passed side by side: each call has a side of its own, so a struct of the two would only be
+//! built at the call and taken apart in it.
 
 ghost use Rattle.std.specs.Prelude.{◌≡◌, ◌*◌, ◌≤◌, length};
 ghost use Rattle.fold.specs.Folding.{page_count};
@@ -82,6 +85,7 @@ pub fn put_records(
         return None;
     }
     let end = at.checked_add(signature.cells() as usize)?;
+    // Not `get_mut(at..end)?`: where that is None, its contract does not say that the plan is as it was.
     if plan.len() < end {
         return None;
     }

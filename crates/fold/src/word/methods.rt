@@ -145,7 +145,7 @@ impl Word {
     fn count_w(&self) -> u32
         ensures { (result ≡ count_w (spelled self.now)) × (result ≤ 4) }
     {
-        self.len as u32 - self.mask.count_ones()
+        u32::from(self.len) - self.count_n()
     }
 
     /// The rows of a side: two to the number of letters N.

@@ -17,5 +17,8 @@ few c =
 pub overflow_mul-result : goal.overflow_mul-result
 overflow_mul-result c = omega (arith, few c)
 
-pub returns : goal.returns
-returns c = record { all = (λ i. c.rows.ensures i * c.columns.ensures i); power = cells_are c; few = few c }
+pub returns-clause-power : goal.returns-clause-power
+returns-clause-power c = cells_are c
+
+pub returns-clause-few : goal.returns-clause-few
+returns-clause-few c = few c

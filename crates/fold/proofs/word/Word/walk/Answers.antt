@@ -1,8 +1,8 @@
-use Rattle.std.proofs.Common.{◌≡◌, suc, length, sym, ap, ◌∙◌, subst, refl, arith}
+use Rattle.std.proofs.Common.{◌≡◌, suc, length, sym, ap, ◌∙◌, subst}
 use Rattle.fold.specs.Spelled.{spelled, unread}
 use Rattle.fold.specs.Walk.{walk, WithRoom}
 use Rattle.fold.proofs.Masks.{length-letters}
-use Rattle.fold.proofs.Steps.{fit, room_step}
+use Rattle.fold.proofs.Steps.{room_step}
 use Rattle.fold.proofs.word.Word.walk.Goals as goal
 
 pub loop-letter-init : goal.loop-letter-init
@@ -15,9 +15,6 @@ loop-letter-init c =
       subst (λ n. WithRoom n c.args.start) (sym left) c.requires,
     )
 
-pub take-cell-requires : goal.take-cell-requires
-take-cell-requires c = fit c.loop-letter.letter-iterator.left c.loop-letter.cell c.loop-letter.invariant.1
-
 pub loop-letter-preserved : goal.loop-letter-preserved
 loop-letter-preserved c =
     let before = c.loop-letter.letter-iterator in
@@ -27,11 +24,4 @@ loop-letter-preserved c =
     sym (length-letters before.left before.mask) ∙ ap length c.in-Some.ensures.steps ∙ ap suc (length-letters after.left after.mask) in (
       ap (walk (unread after)) c.take-cell.ensures ∙ sym (ap (λ w. walk w cell) c.in-Some.ensures.steps) ∙ c.loop-letter.invariant.0,
       subst (WithRoom after.left) (sym c.take-cell.ensures) (room_step after.left c.in-Some.letter cell (subst (λ n. WithRoom n cell) left c.loop-letter.invariant.1)),
-    )
-
-pub returns : goal.returns
-returns c =
-    let inv = c.loop-letter.invariant in (
-      sym (ap (λ u. walk u c.loop-letter.cell) c.in-None.ensures.steps.0) ∙ inv.0,
-      (inv.1.0, omega (arith, fit c.loop-letter.letter-iterator.left c.loop-letter.cell inv.1)),
     )
