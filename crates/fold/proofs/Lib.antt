@@ -1,5 +1,7 @@
 pub mod Law
+pub mod Alike
 pub mod Order
 pub mod Masks
 pub mod Steps
 pub mod Spelling
+pub mod Places

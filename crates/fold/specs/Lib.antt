@@ -4,4 +4,5 @@ pub mod Sheets
 pub mod Walk
 pub mod Folding
 pub mod Signatures
+pub mod Shown
 pub mod Worked

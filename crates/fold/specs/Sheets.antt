@@ -1,5 +1,5 @@
--- The numbers under which sides and marks are written, and which side of its sheet a side is.
-use Rattle.std.specs.Prelude.{ℕ, ◌%◌, cond, ◌==◌}
+-- The numbers and names under which sides and marks are written, and which side of its sheet a side is.
+use Rattle.std.specs.Prelude.{ℕ, ◌%◌, cond, List, ◌==◌, codes}
 use Rattle.fold.specs.declared.sheets.Mark.{Mark}
 use Rattle.fold.specs.declared.sheets.Mark.TheVariants.{Upright, Turned}
 use Rattle.fold.specs.declared.sheets.Side.{Side}
@@ -8,6 +8,10 @@ use Rattle.fold.specs.declared.sheets.Side.TheVariants.{One, Two}
 abbrev pub side_number : Side → ℕ
 side_number One = 1
 side_number Two = 2
+
+abbrev pub side_name : Side → List ℕ
+side_name One = codes "one"
+side_name Two = codes "two"
 
 abbrev pub mark_number : Mark → ℕ
 mark_number Upright = 0

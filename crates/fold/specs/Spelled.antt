@@ -2,6 +2,7 @@
 use Rattle.std.specs.Prelude.{◌≡◌, ℕ, ◌≤◌, List, map, length, Result, Ok, Err, ◌≢◌}
 use Rattle.fold.specs.Words.{Letters, code, letters}
 use Rattle.fold.specs.declared.letters.Letter.{Letter}
+use Rattle.fold.specs.declared.letters.Letters.{Letters as Unread}
 use Rattle.fold.specs.declared.letters.UnknownLetter.{UnknownLetter}
 use Rattle.fold.specs.declared.word.NotAWord.{NotAWord}
 use Rattle.fold.specs.declared.word.Word.{Word}
@@ -13,6 +14,10 @@ Decodes c (Err e) = (e.0 ≡ c) × ((letter : Letter) → code letter ≢ c)
 
 abbrev pub spelled : Word → Letters
 spelled w = letters w.len w.mask
+
+-- The letters that are still to come of an iterator.
+abbrev pub unread : Unread → Letters
+unread l = letters l.left l.mask
 
 abbrev pub text_of : Letters → List ℕ
 text_of w = map code w

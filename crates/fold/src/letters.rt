@@ -1,5 +1,6 @@
 ghost use Rattle.fold.specs.Spelled.{Decodes};
-ghost use Rattle.fold.specs.Words.{code, digit_of, of_digit};
+ghost use Rattle.fold.specs.Words.{code, digit_of, letters, of_digit};
+ghost use Rattle.std.specs.Iterator.{YieldsFirst, item_count};
 ghost use Rattle.std.specs.Prelude.{◌≡◌, [], ◌∷◌, Some};
 
 use std::error::Error;
@@ -59,6 +60,29 @@ impl fmt::Display for UnknownLetter {
 }
 
 impl Error for UnknownLetter {}
+
+/// The letters of a fold word, in the order in which the folds are made.
+#[derive(Clone, Debug, Drop)]
+pub struct Letters {
+    /// A digit for each letter that is left, that of the next one lowest.
+    pub(crate) mask: u8,
+    pub(crate) left: u8,
+}
+
+impl Iterator for Letters {
+    type Item = Letter;
+
+    ghost next_gives = { YieldsFirst (λ l. letters l.left l.mask) };
+
+    ghost remaining = { item_count (λ l. letters l.left l.mask) };
+
+    fn next(&mut self) -> Option<Letter> {
+        self.left = self.left.checked_sub(1)?;
+        let letter = Letter::of_digit(self.mask % 2);
+        self.mask /= 2;
+        Some(letter)
+    }
+}
 
 impl Letter {
     /// The letter that a mask's digit stands for.

@@ -6,13 +6,15 @@
 
 mod letters;
 mod sheets;
+mod shown;
 mod signature;
 mod theorems;
 mod walk;
 mod word;
 
-pub use letters::{Letter, UnknownLetter};
+pub use letters::{Letter, Letters, UnknownLetter};
 pub use sheets::{Cell, Mark, Position, Side};
+pub use shown::Shown;
 pub use signature::Signature;
 pub use theorems::{folding_reads_in_order, worked_sheets};
 pub use word::{NotAWord, Word};

@@ -1,5 +1,7 @@
-ghost use Rattle.fold.specs.Sheets.{mark_number, side_number, side_of};
-ghost use Rattle.std.specs.Prelude.{◌≡◌};
+ghost use Rattle.fold.specs.Sheets.{mark_number, side_name, side_number, side_of};
+ghost use Rattle.std.specs.Prelude.{◌≡◌, Some};
+
+use std::fmt;
 
 /// A side of a sheet. In the stack side one lies down and side two up.
 #[derive(Clone, Copy, PartialEq, Eq, Debug)]
@@ -9,6 +11,9 @@ pub enum Side {
 }
 
 impl Side {
+    /// The sides of a sheet.
+    pub const BOTH: [Side; 2] = [Side::One, Side::Two];
+
     /// The side of its sheet that a side of a book is: these count from 1, side one of each sheet before its side two.
     pub fn of(side: u32) -> Side
         ensures { result ≡ side_of side }
@@ -25,6 +30,17 @@ impl From<Side> for u32 {
             Side::One => 1,
             Side::Two => 2,
         }
+    }
+}
+
+impl fmt::Display for Side {
+    ghost output = { λ side. Some (side_name side) };
+
+    fn fmt<W: fmt::Write>(&self, f: &mut fmt::Formatter<W>) -> fmt::Result {
+        f.write_str(match self {
+            Side::One => "one",
+            Side::Two => "two",
+        })
     }
 }
 

@@ -19,7 +19,7 @@ use Rattle.signature.proofs.Sides.{side_of_lem, signature_of, sheet_of_lem, numb
 use Rattle.plan.specs.Folds.{lies, first, mark_numbered, cell_of, filled, Planned, PlansFold}
 use Rattle.plan.specs.Records.{record_at, records_of, plan_to, RecordsName}
 use Rattle.plan.specs.declared.record.Record.{Record}
-use Rattle.plan.proofs.Alike.{Inside, fold_alike}
+use Rattle.fold.proofs.Alike.{Inside, fold_alike}
 use Rattle.plan.proofs.Firsts.{first_front, first_back, first_none, first_some}
 
 -- ---- a record names what is laid

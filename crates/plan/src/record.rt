@@ -27,13 +27,15 @@ impl fmt::Display for Record {
     ghost output = { λ r. Some (record_line r) };
 
     fn fmt<W: fmt::Write>(&self, f: &mut fmt::Formatter<W>) -> fmt::Result {
-        let signature = self.signature;
-        let sheet = self.sheet;
-        let side = self.side;
-        let row = self.row;
-        let column = self.column;
-        let page = self.page;
-        let mark = self.mark;
+        let Record {
+            signature,
+            sheet,
+            side,
+            row,
+            column,
+            page,
+            mark,
+        } = *self;
         write!(f, "{signature} {sheet} {side} {row} {column} {page} {mark}")
     }
 }

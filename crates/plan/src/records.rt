@@ -4,11 +4,18 @@ ghost use Rattle.std.specs.Prelude.{◌≡◌, ◌*◌, ◌≤◌, length};
 ghost use Rattle.fold.specs.Folding.{page_count};
 ghost use Rattle.fold.specs.Signatures.{letters_of};
 ghost use Rattle.pages.specs.Limits.{max_pages};
-ghost use Rattle.plan.specs.Records.{place_after, position_record, record_in, written};
+ghost use Rattle.plan.specs.Records.{is_side, place_after, position_record, record_in, written};
 
 use crate::record::Record;
 use fold::{Position, Side, Signature};
 use pages::limits::MAX_PAGES;
+
+// Whether a book may have such a side.
+fn is_side(side: u32) -> bool
+    ensures { result ≡ is_side side }
+{
+    (1..=MAX_PAGES).contains(&side)
+}
 
 // How many pages so many signatures take.
 fn pages_of(signature: &Signature, signatures: u32) -> u32
@@ -23,7 +30,7 @@ fn pages_of(signature: &Signature, signatures: u32) -> u32
 pub fn record(signature: &Signature, side: u32, row: u32, column: u32) -> Option<Record>
     ensures { result ≡ position_record (letters_of signature.now) signature.now.sheets side row column }
 {
-    if side == 0 || MAX_PAGES < side {
+    if !is_side(side) {
         return None;
     }
     let sheets = signature.sheets();
@@ -71,15 +78,15 @@ pub fn put_records(
     ensures answer { result ≡ place_after (letters_of signature.now) side (length plan.old) at }
     ensures after { plan.new ≡ written (letters_of signature.now) signature.now.sheets side plan.old at }
 {
-    let count = signature.cells();
-    if side == 0 || MAX_PAGES < side {
+    if !is_side(side) {
         return None;
     }
-    if plan.len() < at || plan.len() - at < count as usize {
+    let end = at.checked_add(signature.cells() as usize)?;
+    if plan.len() < end {
         return None;
     }
-    for index in 0..count {
-        plan[at + index as usize] = record_at(signature, side, index)?;
+    for (index, entry) in plan[at..end].iter_mut().enumerate() {
+        *entry = record_at(signature, side, index as u32)?;
     }
-    Some(at + count as usize)
+    Some(end)
 }

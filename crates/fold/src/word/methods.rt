@@ -1,12 +1,12 @@
 ghost use Rattle.std.specs.Prelude.{◌≡◌, ◌^◌, ◌<◌, ◌≤◌, [], ◌∷◌, ◌++◌, length, Some, MatchResult};
-ghost use Rattle.fold.specs.Spelled.{Reads, spelled, text_of};
+ghost use Rattle.fold.specs.Spelled.{Reads, spelled, text_of, unread};
 ghost use Rattle.fold.specs.Walk.{WithRoom, walk};
 ghost use Rattle.fold.specs.Words.{columns_of, count_n, count_w, rows_of, scheme};
 ghost use Rattle.std.specs.List.{slice_get};
 ghost use Rattle.std.specs.Option.{option_map};
 
 use super::{NotAWord, Word};
-use crate::letters::{Letter, UnknownLetter};
+use crate::letters::{Letter, Letters, UnknownLetter};
 use crate::walk::CellState;
 use std::error::Error;
 use std::fmt;
@@ -68,8 +68,7 @@ impl fmt::Display for Word {
     ghost output = { λ word. Some (text_of (spelled word)) };
 
     fn fmt<W: fmt::Write>(&self, f: &mut fmt::Formatter<W>) -> fmt::Result {
-        for index in 0..self.len {
-            let letter = self.letter_at(index as u32);
+        for letter in self.letters() {
             write!(f, "{letter}")?;
         }
         Ok(())
@@ -118,22 +117,21 @@ impl Word {
         })
     }
 
-    /// The letter at an index that the word has.
-    fn letter_at(&self, index: u32) -> Letter
-        requires { index < self.now.len }
-        ensures { Some result ≡ slice_get (spelled self.now) index }
+    /// The letters, in the order in which the folds are made.
+    pub fn letters(&self) -> Letters
+        ensures { unread result ≡ spelled self.now }
     {
-        Letter::of_digit((self.mask >> index) % 2)
+        Letters {
+            mask: self.mask,
+            left: self.len,
+        }
     }
 
-    /// The letter at an index, from 0: the order in which the folds are made.
+    /// The letter at an index, from 0.
     pub fn letter(&self, index: u32) -> Option<Letter>
         ensures { result ≡ slice_get (spelled self.now) index }
     {
-        if index >= self.len as u32 {
-            return None;
-        }
-        Some(self.letter_at(index))
+        self.letters().nth(index as usize)
     }
 
     /// How many letters are N: the ones of the mask.
@@ -170,10 +168,8 @@ impl Word {
         ensures { (result ≡ walk (spelled self.now) start) × ((1 ≤ result.depth) × (result.depth ≤ 256)) }
     {
         let mut cell = start;
-        let mut rest = self.mask;
-        for done in 0..self.len {
-            cell = cell.take(Letter::of_digit(rest % 2));
-            rest /= 2;
+        for letter in self.letters() {
+            cell = cell.take(letter);
         }
         cell
     }
