@@ -5,8 +5,8 @@ use Rattle.std.proofs.lemmas.Option.{slice_get_past}
 use Rattle.std.specs.List.{flat_map}
 use Rattle.layers.specs.Layering.{part_shown}
 use Rattle.layers.specs.declared.parts.Part.{Part}
-use Rattle.layers.specs.Showing.{part_few}
-use Rattle.layers.specs.Slots.{drop-none, drop-some}
+use Rattle.layers.proofs.Showing.{part_few}
+use Rattle.layers.proofs.Slots.{drop-none, drop-some}
 use Rattle.pages.specs.Limits.{max_placements}
 use Rattle.pages.specs.Meaning.{Lawful, Meaning, slot_at}
 use Rattle.pages.specs.declared.maps.Placement.{Placement}

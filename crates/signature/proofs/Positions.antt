@@ -22,7 +22,7 @@ use Rattle.pages.specs.Meaning.{Meaning, size_of}
 use Rattle.fold.specs.Signatures.{letters_of}
 use Rattle.fold.specs.declared.signature.Signature.{Signature}
 use Rattle.layers.specs.Layering.{Below, all_below}
-use Rattle.layers.specs.Showing.{in_range}
+use Rattle.layers.proofs.Showing.{in_range}
 use Rattle.fold.specs.Sheets.{side_of}
 use Rattle.signature.specs.Imposing.{position_map, position_at, positions, sheet_of, sheets_before, sides_of, impose_shows, spot_at, pages_before}
 use Rattle.signature.proofs.Grids.{before_fits, column_below, grid, row_below}

@@ -1,6 +1,6 @@
 use Rattle.std.proofs.Common.{Some, ap, ◌∙◌}
 use Rattle.pages.specs.declared.maps.Placement.{Placement}
-use Rattle.layers.specs.Showing.{part_placed, part_unplaced}
+use Rattle.layers.proofs.Showing.{part_placed, part_unplaced}
 use Rattle.sides.proofs.positions.shown.Goals as goal
 
 pub returns-in-Ok : goal.returns-in-Ok
