@@ -1,6 +1,7 @@
 -- The laws of maps.
 use Rattle.std.proofs.Common.{◌≡◌, ℕ, zero, suc, ◌+◌, ◌*◌, ◌/◌, ◌%◌, ◌≤◌, ℤ, pos, negsuc, ◌+ℤ◌, ◌*ℤ◌, neg_ℤ, sym, refl, ap, ◌∙◌, mul_assoc, mul_comm, one-mul, mul-zero, zero-add, mul-one, arith}
-use lib.IntN.{+ℤ_assoc, +ℤ_comm, +ℤ_idl, +ℤ_idr, neg_ℤ-neg_ℤ, neg_ℤ-+ℤ, zero-*ℤ, *ℤ-zero, suc_ℤ-*ℤ}
+use Rattle.std.proofs.lemmas.Int.{ints}
+use lib.IntN.{+ℤ_assoc, +ℤ_idl, +ℤ_idr, neg_ℤ-neg_ℤ, neg_ℤ-+ℤ, zero-*ℤ, *ℤ-zero, suc_ℤ-*ℤ}
 use Rattle.pages.specs.Limits.{max_turn}
 use Rattle.pages.specs.Maps.{turned, identity, followed, Point, times, moved, image, MapsCompose}
 use Rattle.pages.specs.declared.maps.Map.{Map}
@@ -16,22 +17,14 @@ times_times m n (pos k) = ap pos (sym (mul_assoc m n k))
 times_times m n (negsuc k) = times_neg m (pos (n * suc k)) ∙ ap (λ (j : ℕ). neg_ℤ (pos j)) (sym (mul_assoc m n (suc k)))
 
 swap_middle : (a b c d : ℤ) → (a +ℤ b) +ℤ (c +ℤ d) ≡ (a +ℤ c) +ℤ (b +ℤ d)
-swap_middle a b c d =
-    +ℤ_assoc a b (c +ℤ d)
-    ∙ ap (λ (z : ℤ). a +ℤ z) (sym (+ℤ_assoc b c d) ∙ ap (λ (z : ℤ). z +ℤ d) (+ℤ_comm b c) ∙ +ℤ_assoc c b d)
-    ∙ sym (+ℤ_assoc a c (b +ℤ d))
+swap_middle a b c d = omega (arith, ints)
 
 times_add : (n : ℕ) (a b : ℤ) → pos n *ℤ (a +ℤ b) ≡ pos n *ℤ a +ℤ pos n *ℤ b
 times_add zero a b = zero-*ℤ (a +ℤ b) ∙ sym (ap (λ (z : ℤ). z +ℤ pos 0 *ℤ b) (zero-*ℤ a) ∙ ap (λ (z : ℤ). pos 0 +ℤ z) (zero-*ℤ b))
-times_add (suc n) a b =
-    suc_ℤ-*ℤ (pos n) (a +ℤ b)
-    ∙ ap (λ (z : ℤ). z +ℤ (a +ℤ b)) (times_add n a b)
-    ∙ swap_middle (pos n *ℤ a) (pos n *ℤ b) a b
-    ∙ sym (ap (λ (z : ℤ). z +ℤ pos (suc n) *ℤ b) (suc_ℤ-*ℤ (pos n) a) ∙ ap (λ (z : ℤ). (pos n *ℤ a +ℤ a) +ℤ z) (suc_ℤ-*ℤ (pos n) b))
+times_add (suc n) a b = omega (arith, ints, suc_ℤ-*ℤ (pos n) (a +ℤ b), suc_ℤ-*ℤ (pos n) a, suc_ℤ-*ℤ (pos n) b, times_add n a b)
 
 times_one : (a : ℤ) → pos 1 *ℤ a ≡ a
-times_one (pos k) = ap pos (one-mul k)
-times_one (negsuc k) = ap (λ (j : ℕ). neg_ℤ (pos j)) (one-mul (suc k))
+times_one a = omega (arith, ints)
 
 -- the same by pairs
 both : (a b : ℤ) (p : ℤ × ℤ) → a ≡ p.0 → b ≡ p.1 → ◌≡◌ {A = ℤ × ℤ} (a, b) p

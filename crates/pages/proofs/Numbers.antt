@@ -12,24 +12,7 @@ kind_of n = get_or kinds (n - 1) NotDsc
 
 -- each kind stands in the list at its number
 stands : (k : Refusal) → kind_of (number k) ≡ k
-stands NotDsc = refl
-stands OutOfOrder = refl
-stands BadComment = refl
-stands Miscount = refl
-stands Unfinished = refl
-stands BadByte = refl
-stands TooLong = refl
-stands TooMany = refl
-stands NoSuch = refl
-stands BadOrder = refl
-stands Uneven = refl
-stands TooLarge = refl
-stands Crowded = refl
-stands TooFar = refl
-stands ShortBuffer = refl
-stands WrongIndex = refl
-stands Finished = refl
-stands ShortPlan = refl
+stands k = grind arith
 
 -- the numbers of the list rise by one from n
 abbrev Rising : ℕ → List Refusal → Type 0
@@ -45,24 +28,7 @@ each : (n : ℕ) → 1 ≤ n → n ≤ 18 → number (kind_of n) ≡ n
 each n l h = at 1 (n - 1) kinds (refl, (refl, (refl, (refl, (refl, (refl, (refl, (refl, (refl, (refl, (refl, (refl, (refl, (refl, (refl, (refl, (refl, (refl, tt)))))))))))))))))) (omega arith) ∙ omega arith
 
 within : (k : Refusal) → (1 ≤ number k) × (number k ≤ 18)
-within NotDsc = (omega arith, omega arith)
-within OutOfOrder = (omega arith, omega arith)
-within BadComment = (omega arith, omega arith)
-within Miscount = (omega arith, omega arith)
-within Unfinished = (omega arith, omega arith)
-within BadByte = (omega arith, omega arith)
-within TooLong = (omega arith, omega arith)
-within TooMany = (omega arith, omega arith)
-within NoSuch = (omega arith, omega arith)
-within BadOrder = (omega arith, omega arith)
-within Uneven = (omega arith, omega arith)
-within TooLarge = (omega arith, omega arith)
-within Crowded = (omega arith, omega arith)
-within TooFar = (omega arith, omega arith)
-within ShortBuffer = (omega arith, omega arith)
-within WrongIndex = (omega arith, omega arith)
-within Finished = (omega arith, omega arith)
-within ShortPlan = (omega arith, omega arith)
+within k = grind arith
 
 pub numbered : Numbered
 numbered = record {

@@ -82,8 +82,6 @@ module _ (n : ℕ) (a : ℤ) (hn : n ≤ max_ratio) (ha : near a ≡ true) where
 
 -- n·a + d·b, as the code forms it
 pub record Sum (n d : ℕ) (a b : ℤ) : Type 0 where
-  pub left : SFits w64 (to_z w64 n *ℤ to_z w64 (of_z w64 a))
-  pub right : SFits w64 (to_z w64 d *ℤ to_z w64 (of_z w64 b))
   pub whole : SFits w64 (pos n *ℤ a +ℤ pos d *ℤ b)
   pub is : to_z w64 (of_z w64 (to_z w64 n *ℤ to_z w64 (of_z w64 a))) +ℤ to_z w64 (of_z w64 (to_z w64 d *ℤ to_z w64 (of_z w64 b))) ≡ pos n *ℤ a +ℤ pos d *ℤ b
 
@@ -92,8 +90,6 @@ summed n d a b hn hd ha hb =
     let p = product_bounds n a hn ha in
     let q = product_bounds d b hd hb in
     record {
-      left = product_fits n a hn ha;
-      right = product_fits d b hd hb;
       whole = bounded_fits (pos n *ℤ a +ℤ pos d *ℤ b) (record { above = omega (arith, ints); below = omega (arith, ints) });
       is = ap (λ (z : ℤ). z +ℤ to_z w64 (of_z w64 (to_z w64 d *ℤ to_z w64 (of_z w64 b)))) (product_back n a hn ha) ∙ ap (λ (z : ℤ). pos n *ℤ a +ℤ z) (product_back d b hd hb);
     }

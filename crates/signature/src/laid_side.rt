@@ -37,7 +37,8 @@ impl LaidSide {
         self.sheets_before() / self.signature.sheets() * self.signature.pages()
     }
 
-    // Where the position at an index is: by rows from the top, from the left.
+    // Where the position at an index is: by rows from the top, from the left. The index is answered at once, where
+    // `Signature::shown` would go through the positions before it.
     fn spot(self, index: u32) -> Position
         requires { index ≤ 16 }
         ensures { result ≡ spot_at (columns_of (letters_of self.signature)) self.signature.sheets self.side index }

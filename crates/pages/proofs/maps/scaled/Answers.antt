@@ -3,12 +3,6 @@ use Rattle.std.proofs.lemmas.Int.{to_z-of_z}
 use Rattle.pages.proofs.Scaling.{summed}
 use Rattle.pages.proofs.maps.scaled.Goals as goal
 
-pub overflow_mul-result : goal.overflow_mul-result
-overflow_mul-result c = (summed c.args.n c.args.d c.args.a c.args.b c.requires.small_n c.requires.small_d c.requires.near_a c.requires.near_b).left
-
-pub overflow_mul-result-2 : goal.overflow_mul-result-2
-overflow_mul-result-2 c = (summed c.args.n c.args.d c.args.a c.args.b c.requires.small_n c.requires.small_d c.requires.near_a c.requires.near_b).right
-
 pub overflow_add-result : goal.overflow_add-result
 overflow_add-result c =
     let s = summed c.args.n c.args.d c.args.a c.args.b c.requires.small_n c.requires.small_d c.requires.near_a c.requires.near_b in

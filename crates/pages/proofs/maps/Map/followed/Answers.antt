@@ -16,18 +16,6 @@ some_if false m = refl
 chosen : (r : Option Map) (b : Bool) (m f : Map) → r ≡ then_some b m → b ≡ fits m → m ≡ f → r ≡ answer f (fits f)
 chosen r b m f e t is = e ∙ ap (λ c. then_some c m) t ∙ ap (λ n. then_some (fits n) n) is ∙ some_if (fits f) f
 
-pub turned-x-requires : goal.turned-x-requires
-turned-x-requires c =
-    let f = fit c.args.self c.requires.first_fits in
-    let g = fit c.args.other c.requires.second_fits in
-    record { quarter = g.quarter; near_x = near_again c.args.self.x f.near_x; near_y = near_again c.args.self.y f.near_y }
-
-pub overflow_add-both : goal.overflow_add-both
-overflow_add-both c =
-    let f = fit c.args.self c.requires.first_fits in
-    let g = fit c.args.other c.requires.second_fits in
-    omega arith
-
 pub returns-in_err-checked_mul : goal.returns-in_err-checked_mul
 returns-in_err-checked_mul c = c.from_residual.ensures ∙ sym (ap (answer (followed c.args.self c.args.other)) (far (followed c.args.self c.args.other) (inr (omega (arith, c.in_err-checked_mul.ensures)))))
 
