@@ -3,7 +3,8 @@
 
 mod inks;
 mod laws;
-mod pieces;
+mod page_spans;
+mod parts;
 mod places;
 mod reader;
 mod scans;

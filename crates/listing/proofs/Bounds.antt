@@ -7,7 +7,7 @@ use Rattle.listing.specs.Pages.{cut, onto}
 use Rattle.listing.specs.Places.{Within, after, fault_at, or_fault, refusal, top}
 use Rattle.listing.specs.Shapes.{AllPaged, AllWithin}
 use Rattle.listing.specs.declared.places.Place.{Place}
-use Rattle.listing.specs.Refusals.{Sound, sound, within_after}
+use Rattle.listing.proofs.Refusals.{Sound, sound, within_after}
 
 -- the lines that are left of a page, where the next byte is number c of line l
 abbrev Rest : ℕ → ℕ → List (List ℕ) → Type 0
