@@ -1,7 +1,8 @@
 ghost use Rattle.std.specs.Prelude.{◌≡◌, ◌-◌, ◌^◌, min, length, is_some};
 ghost use Rattle.listing.specs.Inks.{baseline, escape, escaped, ink_of, shown_line, special};
 
-use crate::parts::lines;
+use crate::parts::Parts;
+use crate::places::LINE_FEED;
 use text::{Counter, Piece, Sink, put_pieces};
 
 const FONT: &[u8] = b"/Courier findfont 6 scalefont setfont\n";
@@ -59,7 +60,7 @@ pub(crate) fn put_ink<O: Sink>(out: &mut O, page: &[u8]) -> Option<()>
     ensures { O.takes out.old (ink_of page.now) (is_some result) out.new }
 {
     out.take(FONT)?;
-    for (i, line) in lines(page).enumerate() {
+    for (i, line) in Parts::new(page, LINE_FEED).enumerate() {
         put_line(out, i, line)?;
     }
     Some(())

@@ -1,6 +1,7 @@
 //! Line-printer listings as a page source: pages parted by form feeds, lines by line feeds.
 #![tactic(auto)]
 
+mod checked;
 mod inks;
 mod laws;
 mod page_spans;

@@ -1,10 +1,9 @@
-ghost use Rattle.std.specs.Prelude.{◌≡◌, ◌+◌, ◌≤◌, length};
+ghost use Rattle.std.specs.Prelude.{◌+◌, ◌≤◌};
 ghost use Rattle.listing.specs.Extents.{extent};
 ghost use Rattle.listing.specs.Pages.{cut};
-ghost use Rattle.listing.specs.Places.{form_feed};
 ghost use Rattle.pages.specs.Limits.{max_ink};
 
-use crate::parts::{Parts, pages};
+use crate::parts::Parts;
 use pages::spans::Span;
 
 /// The span of the preamble, which is empty.
@@ -18,19 +17,8 @@ pub(crate) const PREAMBLE: Span = Span {
 pub struct PageSpans<'a> {
     pub(crate) at: u32,
     pub(crate) pages: Parts<'a>,
+    // so that every span fits its numbers
     ghost fits: { at + extent (cut pages.separator pages.rest.now) ≤ max_ink + 1 },
-}
-
-/// Where the pages of a file lie in it.
-pub(crate) fn page_spans<'a>(file: &'a [u8]) -> PageSpans<'a>
-    requires { length file.now ≤ max_ink }
-    ensures start { result.at ≡ 0 }
-    ensures pages { cut result.pages.separator result.pages.rest.now ≡ cut form_feed file.now }
-{
-    PageSpans {
-        at: 0,
-        pages: pages(file),
-    }
 }
 
 impl<'a> Iterator for PageSpans<'a> {

@@ -1,7 +1,5 @@
 ghost use Rattle.std.specs.Prelude.{◌≡◌};
-ghost use Rattle.listing.specs.Places.{form_feed, line_feed};
 
-use crate::places::{FORM_FEED, LINE_FEED};
 use text::before;
 
 /// The parts of bytes between separators; an empty last part is none.
@@ -11,25 +9,15 @@ pub struct Parts<'a> {
     pub(crate) separator: u8,
 }
 
-/// The pages of a file.
-pub(crate) fn pages<'a>(file: &'a [u8]) -> Parts<'a>
-    ensures bytes { result.rest.now ≡ file.now }
-    ensures parted { result.separator ≡ form_feed }
-{
-    Parts {
-        rest: file,
-        separator: FORM_FEED,
-    }
-}
-
-/// The lines of a page.
-pub(crate) fn lines<'a>(page: &'a [u8]) -> Parts<'a>
-    ensures bytes { result.rest.now ≡ page.now }
-    ensures parted { result.separator ≡ line_feed }
-{
-    Parts {
-        rest: page,
-        separator: LINE_FEED,
+impl<'a> Parts<'a> {
+    pub(crate) fn new(bytes: &'a [u8], separator: u8) -> Parts<'a>
+        ensures bytes { result.rest.now ≡ bytes.now }
+        ensures separator { result.separator ≡ separator }
+    {
+        Parts {
+            rest: bytes,
+            separator,
+        }
     }
 }
 

@@ -1,12 +1,11 @@
-ghost use Rattle.std.specs.Prelude.{◌≡◌, ◌*◌, ◌≤◌, [], length, take, drop, Decides};
+ghost use Rattle.std.specs.Prelude.{◌≡◌, ◌*◌, [], take, drop, Decides};
 ghost use Rattle.listing.specs.Loads.{Loads};
 ghost use Rattle.listing.specs.Scans.{Indexed};
-ghost use Rattle.pages.specs.Limits.{max_ink};
 ghost use Rattle.pages.specs.Spans.{pair};
 
-use crate::page_spans::{PREAMBLE, page_spans};
+use crate::checked::Checked;
+use crate::page_spans::PREAMBLE;
 use crate::reader::Listing;
-use crate::scans::survey;
 use pages::faults::{Fault, Refusal};
 use pages::spans::Span;
 
@@ -18,14 +17,13 @@ fn has_span(index: &[u32], leaf: usize, span: Span) -> bool
 }
 
 /// Whether an index begins with the spans of a file.
-fn has_index(file: &[u8], index: &[u32]) -> bool
-    requires { length file.now ≤ max_ink }
-    ensures { Decides result (Indexed file.now index.now) }
+fn has_index(checked: &Checked, index: &[u32]) -> bool
+    ensures { Decides result (Indexed checked.now.file.now index.now) }
 {
     if !has_span(index, 0, PREAMBLE) {
         return false;
     }
-    for (i, span) in page_spans(file).enumerate() {
+    for (i, span) in checked.spans().enumerate() {
         if !has_span(index, i + 1, span) {
             return false;
         }
@@ -49,10 +47,11 @@ impl<'a> Listing<'a> {
     pub fn load(&mut self, file: &'a [u8], index: &'a [u32]) -> Result<u32, Fault>
         ensures { Loads file.now index.now self.old self.new result }
     {
-        let pages = survey(file)?;
-        if !has_index(file, index) {
+        let checked = Checked::new(file)?;
+        if !has_index(&checked, index) {
             return Err(Fault::new(Refusal::WrongIndex, 1, 0));
         }
+        let pages = checked.pages();
         self.file = file;
         self.index = index;
         self.leaves = pages;

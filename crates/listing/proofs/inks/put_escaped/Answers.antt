@@ -1,4 +1,4 @@
-use Rattle.std.proofs.Common.{◌+◌, drop, sym, ◌∙◌, arith}
+use Rattle.std.proofs.Common.{◌+◌, drop, sym, ◌∙◌}
 use Rattle.std.specs.List.{flat_map}
 use Rattle.text.proofs.Joins.{joined_all}
 use Rattle.text.proofs.Taking.{refused}

@@ -1,4 +1,4 @@
-use Rattle.std.proofs.Common.{◌≡◌, ◌+◌, true, false, [], ◌∷◌, ◌++◌, length, inl, sym, refl, ap, ◌∙◌, append_assoc, append-nil, subst, arith}
+use Rattle.std.proofs.Common.{true, ◌++◌, length, inl, sym, refl, ap, ◌∙◌, append_assoc, append-nil, subst, arith}
 use Rattle.text.proofs.Taking.{refused, refused_first}
 use Rattle.listing.specs.Inks.{font, ink_of, shown_line, shown_lines}
 use Rattle.listing.specs.Pages.{cut}
@@ -16,7 +16,7 @@ loop-i-init-derived g c =
     let none = ap (λ e. e.count) c.into_iter-i-iterator.ensures.into_iter_gives ∙ c.enumerate-i-items.ensures.count in
     let p = c.into_iter-i-iterator.result.iter in
     let q = ap (λ e. e.iter) c.into_iter-i-iterator.ensures.into_iter_gives ∙ c.enumerate-i-items.ensures.source in
-    let b = ap (λ q. length q.rest.now) q ∙ ap length c.lines.ensures.bytes in
+    let b = ap (λ q. length q.rest.now) q ∙ ap length c.new.ensures.bytes in
     ((tt, tt, inl (omega (arith, none, b, extent_cut p.separator p.rest.now, length_extent (cut p.separator p.rest.now)))), tt)
 
 pub loop-i-preserved : goal.loop-i-preserved
@@ -38,7 +38,7 @@ returns-in_err-put_line g c =
     let more = shown_lines c.next.new.self.count (cut rest.separator rest.rest.now) in
     refused laws.both laws.short (font ++ inv.0) line more (ink_of c.args.page.now)
     (ap (λ z. z ++ more) (append_assoc font inv.0 line) ∙ append_assoc font (inv.0 ++ line) more
-        ∙ ap (λ z. font ++ z) (shown_next inv.0 _ _ _ _ _ _ c.in-Some.line.now inv.2 n.0 n.1 n.2))
+    ∙ ap (λ z. font ++ z) (shown_next inv.0 _ _ _ _ _ _ c.in-Some.line.now inv.2 n.0 n.1 n.2))
     c.from_residual-in_err-put_line.ensures (laws.both _ _ _ _ _ true c.in_ok-take.ensures inv.1) c.in_err-put_line.ensures
 
 pub returns : goal.returns

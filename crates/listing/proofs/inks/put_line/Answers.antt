@@ -1,5 +1,4 @@
-use Rattle.std.proofs.Common.{true, false, [], ◌++◌, ◌∷◌, codes, decimal, is_some, sym, ◌∙◌, subst, append_assoc}
-use Rattle.text.specs.Pieces.{spelled_all}
+use Rattle.std.proofs.Common.{true, [], ◌++◌, ◌∷◌, codes, decimal, is_some, sym, ◌∙◌, subst, append_assoc}
 use Rattle.text.proofs.Taking.{refused, refused_first}
 use Rattle.listing.specs.Inks.{escaped, shown_line}
 use Rattle.listing.proofs.Inking.{line_parts}

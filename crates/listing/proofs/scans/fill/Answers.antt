@@ -20,9 +20,9 @@ loop-i-init c =
     let index = c.args.index.now in (
       0 ∷ 0 ∷ [],
       omega (arith, none),
-      c.in_ok-put.ensures.after ∙ put_after index index [] 0 (record { offset = 0; length = 0 }) (sym (splice_none index 0)) refl (omega (arith, c.requires.index_fits)),
+      c.in_ok-put.ensures.after ∙ put_after index index [] 0 (record { offset = 0; length = 0 }) (sym (splice_none index 0)) refl (omega (arith, c.requires)),
       ap (λ s. 0 ∷ 0 ∷ flat_map pair (spans_left s)) same
-          ∙ ap (λ z. 0 ∷ 0 ∷ z) (pairs_left c.page_spans.result c.args.file.now c.page_spans.ensures.start c.page_spans.ensures.pages),
+          ∙ ap (λ z. 0 ∷ 0 ∷ z) (pairs_left c.spans.result c.args.checked.now.file.now c.spans.ensures.start c.spans.ensures.pages),
     )
 
 pub loop-i-preserved : goal.loop-i-preserved
@@ -31,11 +31,11 @@ loop-i-preserved c =
     let n = c.in-Some.ensures.steps in
     let s = c.in-Some.span in
     let k : length inv.0 ≡ 2 * (c.in-Some.i + 1) = omega (arith, inv.1, n.1) in
-    let room = pair_room inv.0 (file_index c.args.file.now) _ _ s inv.3 n.0 in (
+    let room = pair_room inv.0 (file_index c.args.checked.now.file.now) _ _ s inv.3 n.0 in (
       inv.0 ++ pair s,
       omega (arith, length-append inv.0 (pair s), inv.1, n.2),
-      c.in_ok-put-2.ensures.after ∙ put_after c.args.index.now c.loop-i.index inv.0 (2 * (c.in-Some.i + 1)) s inv.2 k (omega (arith, room, k, c.loop-i.auto.index, c.requires.index_fits)),
-      pair_put inv.0 (file_index c.args.file.now) _ _ s inv.3 n.0,
+      c.in_ok-put-2.ensures.after ∙ put_after c.args.index.now c.loop-i.index inv.0 (2 * (c.in-Some.i + 1)) s inv.2 k (omega (arith, room, k, c.loop-i.auto.index, c.requires)),
+      pair_put inv.0 (file_index c.args.checked.now.file.now) _ _ s inv.3 n.0,
     )
 
 pub returns-in_err-put-2-clause-answer : goal.returns-in_err-put-2-clause-answer
@@ -43,8 +43,8 @@ returns-in_err-put-2-clause-answer c =
     let inv = c.loop-i.invariant in
     let n = c.in-Some.ensures.steps in
     let k : length inv.0 ≡ 2 * (c.in-Some.i + 1) = omega (arith, inv.1, n.1) in
-    let room = pair_room inv.0 (file_index c.args.file.now) _ _ c.in-Some.span inv.3 n.0 in
-    let goes = c.in_err-put-2.ensures.answer ∙ put_goes (c.in-Some.i + 1) (length c.loop-i.index) (omega (arith, room, k, c.loop-i.auto.index, c.requires.index_fits)) in
+    let room = pair_room inv.0 (file_index c.args.checked.now.file.now) _ _ c.in-Some.span inv.3 n.0 in
+    let goes = c.in_err-put-2.ensures.answer ∙ put_goes (c.in-Some.i + 1) (length c.loop-i.index) (omega (arith, room, k, c.loop-i.auto.index, c.requires)) in
     absurd (let z : ◌≡◌ {A = ℕ} 0 1 = cc in omega arith)
 
 pub returns-in_err-put-2-clause-after : goal.returns-in_err-put-2-clause-after
@@ -52,6 +52,6 @@ returns-in_err-put-2-clause-after c =
     let inv = c.loop-i.invariant in
     let n = c.in-Some.ensures.steps in
     let k : length inv.0 ≡ 2 * (c.in-Some.i + 1) = omega (arith, inv.1, n.1) in
-    let room = pair_room inv.0 (file_index c.args.file.now) _ _ c.in-Some.span inv.3 n.0 in
-    let goes = c.in_err-put-2.ensures.answer ∙ put_goes (c.in-Some.i + 1) (length c.loop-i.index) (omega (arith, room, k, c.loop-i.auto.index, c.requires.index_fits)) in
+    let room = pair_room inv.0 (file_index c.args.checked.now.file.now) _ _ c.in-Some.span inv.3 n.0 in
+    let goes = c.in_err-put-2.ensures.answer ∙ put_goes (c.in-Some.i + 1) (length c.loop-i.index) (omega (arith, room, k, c.loop-i.auto.index, c.requires)) in
     absurd (let z : ◌≡◌ {A = ℕ} 0 1 = cc in omega arith)

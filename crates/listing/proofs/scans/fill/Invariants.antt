@@ -9,4 +9,4 @@ use Rattle.listing.proofs.scans.fill.Given as goal
 -- the pairs that stand in the index, and those of the pages that are left
 abbrev pub invariant-loop-i : goal.invariant-loop-i
 invariant-loop-i l =
-    (xs : List ℕ) × (length xs ≡ 2 * (l.i-iterator.count + 1)) × (l.index ≡ splice l.fn.index 0 xs) × (xs ++ flat_map pair (spans_left l.i-iterator.iter) ≡ file_index l.file)
+    (xs : List ℕ) × (length xs ≡ 2 * (l.i-iterator.count + 1)) × (l.index ≡ splice l.fn.index 0 xs) × (xs ++ flat_map pair (spans_left l.i-iterator.iter) ≡ file_index l.checked.file.now)

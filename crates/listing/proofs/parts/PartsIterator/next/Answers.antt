@@ -1,5 +1,4 @@
-use Rattle.std.proofs.Common.{◌≡◌, ◌+◌, length, take, drop, refl, ap, ◌∙◌, arith}
-use Rattle.text.specs.Searches.{until}
+use Rattle.std.proofs.Common.{◌+◌, length, take, drop, refl, ap, ◌∙◌, arith}
 use Rattle.text.proofs.Searches.{until_le}
 use Rattle.listing.proofs.Cuts.{cut_split, rest_after, some_bytes}
 use Rattle.listing.proofs.parts.PartsIterator.next.Goals as goal

@@ -1,15 +1,20 @@
-use Rattle.std.proofs.Common.{is_some, refl, ap}
+use Rattle.std.proofs.Common.{◌≡◌, ◌≤◌, false, length, is_some, refl, ap, ◌∙◌, subst}
+use Rattle.pages.specs.Limits.{max_ink}
+use Rattle.listing.specs.Pages.{cut}
+use Rattle.listing.specs.Places.{refusal, top}
+use Rattle.listing.specs.Scans.{Indexed}
 use Rattle.listing.proofs.Lawful.{listed_lawful}
 use Rattle.listing.proofs.reader.Listing.load.Goals as goal
 
 pub invariant_of-self : goal.invariant_of-self
 invariant_of-self c =
-    let told = c.in_ok-pages.ensures in
-    let clean = ap is_some told.0.clean in
+    let checked = c.in_ok-checked.checked in
+    let same = c.in_ok-checked.ensures in
+    let clean = subst (λ f. is_some (refusal top 0 f) ≡ false) same checked.clean in
     record {
-      short = told.0.short;
+      short = subst (λ f. length f ≤ max_ink) same checked.short;
       clean = clean;
-      counted = told.1;
-      indexed = c.if-not-has_index.ensures.0 refl;
+      counted = c.pages-pages.ensures ∙ ap (λ f. length (cut 12 f)) same;
+      indexed = subst (λ f. Indexed f c.args.index.now) same (c.if-not-has_index.ensures.0 refl);
       lawful = listed_lawful c.args.file.now clean;
     }

@@ -22,7 +22,7 @@ loop-i-init c =
       omega (arith, none),
       c.if-not-has_span.ensures.0 refl,
       ap (λ s. 0 ∷ 0 ∷ flat_map pair (spans_left s)) same
-          ∙ ap (λ z. 0 ∷ 0 ∷ z) (pairs_left c.page_spans.result c.args.file.now c.page_spans.ensures.start c.page_spans.ensures.pages),
+          ∙ ap (λ z. 0 ∷ 0 ∷ z) (pairs_left c.spans.result c.args.checked.now.file.now c.spans.ensures.start c.spans.ensures.pages),
     )
 
 pub returns-then-not-has_span-2 : goal.returns-then-not-has_span-2
@@ -31,9 +31,9 @@ returns-then-not-has_span-2 c =
     let n = c.in-Some.ensures.steps in
     let index = c.args.index.now in
     let k : length inv.0 ≡ 2 * (c.in-Some.i + 1) = omega (arith, inv.1, n.1) in
-    let parts = pair_next inv.0 (file_index c.args.file.now) _ _ c.in-Some.span inv.3 n.0 in (
+    let parts = pair_next inv.0 (file_index c.args.checked.now.file.now) _ _ c.in-Some.span inv.3 n.0 in (
       (λ f. absurd (false≢true f)),
-      (λ e. c.if-not-has_span-2.ensures.1 (pair_within index inv.0 _ (file_index c.args.file.now) _ _ _ k parts e)),
+      (λ e. c.if-not-has_span-2.ensures.1 (pair_within index inv.0 _ (file_index c.args.checked.now.file.now) _ _ _ k parts e)),
     )
 
 pub loop-i-preserved : goal.loop-i-preserved
@@ -47,5 +47,5 @@ loop-i-preserved c =
       inv.0 ++ pair s,
       omega (arith, length-append inv.0 (pair s), inv.1, n.2),
       ap (λ m. take m index) (length-append inv.0 (pair s)) ∙ pair_more index inv.0 (length inv.0) s.offset s.length inv.2 here,
-      pair_put inv.0 (file_index c.args.file.now) _ _ s inv.3 n.0,
+      pair_put inv.0 (file_index c.args.checked.now.file.now) _ _ s inv.3 n.0,
     )

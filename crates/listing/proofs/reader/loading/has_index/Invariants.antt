@@ -8,4 +8,4 @@ use Rattle.listing.proofs.reader.loading.has_index.Given as goal
 -- the numbers that were compared, and those of the pages that are left
 abbrev pub invariant-loop-i : goal.invariant-loop-i
 invariant-loop-i l =
-    (xs : List ℕ) × (length xs ≡ 2 * (l.i-iterator.count + 1)) × (take (length xs) l.index ≡ xs) × (xs ++ flat_map pair (spans_left l.i-iterator.iter) ≡ file_index l.file)
+    (xs : List ℕ) × (length xs ≡ 2 * (l.i-iterator.count + 1)) × (take (length xs) l.index ≡ xs) × (xs ++ flat_map pair (spans_left l.i-iterator.iter) ≡ file_index l.checked.file.now)

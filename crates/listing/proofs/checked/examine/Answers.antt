@@ -3,7 +3,7 @@ use Rattle.std.proofs.lemmas.List.{at_drop_all}
 use Rattle.listing.specs.Places.{refusal, top}
 use Rattle.listing.specs.declared.places.Place.{Place}
 use Rattle.listing.proofs.Refusals.{next_none, next_some}
-use Rattle.listing.proofs.scans.examine.Goals as goal
+use Rattle.listing.proofs.checked.examine.Goals as goal
 
 pub returns-in-Err : goal.returns-in-Err
 returns-in-Err c =
