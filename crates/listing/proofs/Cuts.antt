@@ -1,6 +1,7 @@
 -- The parts of bytes, one at a time.
-use Rattle.std.proofs.Common.{◌≡◌, ℕ, suc, ◌+◌, ◌*◌, ◌<◌, ◌≤◌, true, false, not, eqb, List, [], ◌∷◌, length, take, drop, sym, refl, ap, ◌∙◌, ⊎_elim, one-add, arith, length-drop, length-take}
-use Rattle.std.proofs.lemmas.List.{drop-drop, length-take-le}
+use Rattle.std.proofs.Common.{◌≡◌, ℕ, suc, ◌+◌, ◌*◌, ◌<◌, ◌≤◌, true, false, not, eqb, ◌⊎◌, List, [], ◌∷◌, length, take, drop, sym, refl, ap, ◌∙◌, ⊎_elim, inl, inr, one-add, Some, None, Option, MatchOption, slice_range, Bor, arith, length-drop, length-take}
+use Rattle.std.proofs.lemmas.List.{drop-drop, drop_all, length-take-le, take_rest}
+use Rattle.std.specs.Option.{unwrap_or}
 use Rattle.std.proofs.lemmas.Bool.{cases_Bool, cond-true, cond-false, eqb-true, not_from_true, not_from_false}
 use Rattle.text.specs.Searches.{until}
 use Rattle.text.proofs.Searches.{until_le}
@@ -68,3 +69,10 @@ next_place s all bs first rest at eb some ef er =
       er ∙ ap (λ m. drop (m + 1) bs) (sym n) ∙ ap (drop (length first + 1)) eb ∙ drop-drop (length first + 1) at all,
       omega (arith, until_le s bs, ap length eb, length-drop at all),
     )
+
+-- what a lookup of the bytes from a place on tells, with none in place of a failure
+pub rest_after : (bs : List ℕ) (n : ℕ) (none : Bor (List ℕ)) (r : Option (Bor (List ℕ))) → none.now ≡ []
+    → MatchOption r ((length bs < n) ⊎ (length bs < length bs)) (λ x. (n ≤ length bs) × (length bs ≤ length bs) × (x.now ≡ slice_range bs n (length bs)) × (length x.now + n ≡ length bs))
+    → (unwrap_or r none).now ≡ drop n bs
+rest_after bs n none None e h = e ∙ sym (drop_all n bs (elim h [ inl l ↦ omega arith | inr l ↦ omega arith ]))
+rest_after bs n none (Some x) e h = h.2 ∙ take_rest bs n

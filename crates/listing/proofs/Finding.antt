@@ -6,7 +6,10 @@ use Rattle.text.proofs.Searches.{until_le}
 use Rattle.listing.specs.Meaning.{page_of}
 use Rattle.listing.specs.Pages.{cut}
 use Rattle.listing.specs.Scans.{Indexed, file_index, index_from}
+use Rattle.pages.specs.Spans.{pair}
+use Rattle.pages.specs.declared.spans.Span.{Span}
 use Rattle.listing.proofs.Cuts.{cut_step, length-index}
+use Rattle.listing.proofs.Pairs.{pair_read}
 
 -- in bytes that begin at a place of the file, an offset and a length find a part
 pub record Found (at : ℕ) (bs : List ℕ) (o n : ℕ) (part : List ℕ) : Type 0 where
@@ -73,3 +76,18 @@ leaf_found file index (suc i) e l h =
 
 pub index_long : (file index : List ℕ) → Indexed file index → 2 * length (cut 12 file) + 2 ≤ length index
 index_long file index e = omega (arith, ap length e, length-take (length (file_index file)) index, length-index 0 (cut 12 file))
+
+-- the index has the pair of each leaf
+pub pair_there : (file index : List ℕ) (leaf : ℕ) → Indexed file index → leaf ≤ length (cut 12 file)
+    → take 2 (drop (2 * leaf) index) ≡ pair (record { offset = get_or index (2 * leaf) 0; length = get_or index (2 * leaf + 1) 0 })
+pair_there file index leaf e h = pair_read index (2 * leaf) (omega (arith, index_long file index e))
+
+-- a span that stands there finds the page
+pub span_finds : (file index : List ℕ) (leaf : ℕ) (s : Span) → Indexed file index → 1 ≤ leaf → leaf ≤ length (cut 12 file) → take 2 (drop (2 * leaf) index) ≡ pair s
+    → Found 0 file s.offset s.length (page_of file leaf)
+span_finds file index leaf s e l h p =
+    let there = pair_there file index leaf e h in
+    let o : get_or index (2 * leaf) 0 ≡ s.offset = cc in
+    let n : get_or index (2 * leaf + 1) 0 ≡ s.length = cc in
+    subst (λ x. Found 0 file x s.length (page_of file leaf)) o
+    (subst (λ x. Found 0 file (get_or index (2 * leaf) 0) x (page_of file leaf)) n (leaf_found file index leaf e l h))

@@ -1,3 +1,9 @@
+pub mod Bounds
 pub mod Cuts
-pub mod Pairs
 pub mod Finding
+pub mod Inking
+pub mod Lawful
+pub mod Pairs
+pub mod Parting
+pub mod Refusals
+pub mod Spans

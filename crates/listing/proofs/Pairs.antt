@@ -3,7 +3,7 @@ use Rattle.std.proofs.Common.{◌≡◌, ℕ, ◌+◌, ◌<◌, ◌≤◌, false
 use Rattle.std.proofs.lemmas.List.{drop_at, drop_more, drop-take, length-take, take-append-drop, take-take}
 use Rattle.std.proofs.lemmas.Bool.{eq-eqb, eqb-true, false≢true}
 
-pair_read : (xs : List ℕ) (k : ℕ) → k + 2 ≤ length xs → take 2 (drop k xs) ≡ get_or xs k 0 ∷ get_or xs (k + 1) 0 ∷ []
+pub pair_read : (xs : List ℕ) (k : ℕ) → k + 2 ≤ length xs → take 2 (drop k xs) ≡ get_or xs k 0 ∷ get_or xs (k + 1) 0 ∷ []
 pair_read xs k l = ap (take 2) (drop_more xs k 0 (omega arith) ∙ ap (λ ys. get_or xs k 0 ∷ ys) (drop_more xs (k + 1) 0 (omega arith)))
 
 module _ (xs : List ℕ) (k o n : ℕ) where

@@ -1,9 +1,11 @@
 //! Line-printer listings as a page source: pages parted by form feeds, lines by line feeds.
 #![tactic(auto)]
 
+mod checked;
 mod inks;
 mod laws;
-mod pieces;
+mod page_spans;
+mod parts;
 mod places;
 mod reader;
 mod scans;

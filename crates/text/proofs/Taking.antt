@@ -10,3 +10,8 @@ module _ {S : Type 0} {takes : S → List ℕ → Bool → S → Type 0}
   refused {s} {t} {u} xs ys zs all e n p q =
       subst (λ fit. takes s all fit u) (sym (ap is_some n))
       (subst (λ text. takes s text false u) e (short s u (xs ++ ys) zs (both s t u xs ys false p q)))
+
+  -- nor does what begins with it
+  pub refused_first : {s u : S} {A : Type 0} {r : Option A} (ys zs all : List ℕ) → ys ++ zs ≡ all → r ≡ None → takes s ys false u → takes s all (is_some r) u
+  refused_first {s} {u} ys zs all e n q =
+      subst (λ fit. takes s all fit u) (sym (ap is_some n)) (subst (λ text. takes s text false u) e (short s u ys zs q))

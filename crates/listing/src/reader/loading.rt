@@ -1,48 +1,32 @@
-ghost use Rattle.std.specs.Prelude.{◌≡◌, ◌+◌, ◌-◌, ◌≤◌, [], ◌∷◌, length as size, take, drop, Decides};
+ghost use Rattle.std.specs.Prelude.{◌≡◌, ◌*◌, [], take, drop, Decides};
 ghost use Rattle.listing.specs.Loads.{Loads};
-ghost use Rattle.listing.specs.Pages.{cut};
-ghost use Rattle.listing.specs.Places.{form_feed};
-ghost use Rattle.listing.specs.Scans.{Good, Indexed, index_from};
+ghost use Rattle.listing.specs.Scans.{Indexed};
+ghost use Rattle.pages.specs.Spans.{pair};
 
-use crate::pieces::split_once;
-use crate::places::FORM_FEED;
+use crate::checked::Checked;
+use crate::page_spans::PREAMBLE;
 use crate::reader::Listing;
-use crate::scans::survey;
 use pages::faults::{Fault, Refusal};
+use pages::spans::Span;
 
-/// Whether a pair of offset and length stands at a place of an index.
-fn has_pair(index: &[u32], k: usize, offset: u32, length: u32) -> bool
-    requires { k ≤ 16777216 }
-    ensures { Decides result (take 2 (drop k index.now) ≡ offset ∷ length ∷ []) }
+/// Whether a span stands in an index as that of a leaf.
+fn has_span(index: &[u32], leaf: usize, span: Span) -> bool
+    ensures { Decides result (take 2 (drop (2 * leaf) index.now) ≡ pair span) }
 {
-    if index.len() < k + 2 {
-        return false;
-    }
-    if index[k] != offset {
-        return false;
-    }
-    index[k + 1] == length
+    Span::at(index, leaf) == Some(span)
 }
 
-/// Whether an index begins with the pairs of a file.
-fn has_index(file: &[u8], index: &[u32]) -> bool
-    requires { Good file.now }
-    ensures { Decides result (Indexed file.now index.now) }
+/// Whether an index begins with the spans of a file.
+fn has_index(checked: &Checked, index: &[u32]) -> bool
+    ensures { Decides result (Indexed checked.now.file.now index.now) }
 {
-    if !has_pair(index, 0, 0, 0) {
+    if !has_span(index, 0, PREAMBLE) {
         return false;
     }
-    let mut k = 2;
-    let mut at = 0;
-    let mut rest = file;
-    while !rest.is_empty() {
-        let (page, more) = split_once(rest, FORM_FEED);
-        if !has_pair(index, k, at, page.len() as u32) {
+    for (i, span) in checked.spans().enumerate() {
+        if !has_span(index, i + 1, span) {
             return false;
         }
-        k += 2;
-        at += page.len() as u32 + 1;
-        rest = more;
     }
     true
 }
@@ -63,15 +47,11 @@ impl<'a> Listing<'a> {
     pub fn load(&mut self, file: &'a [u8], index: &'a [u32]) -> Result<u32, Fault>
         ensures { Loads file.now index.now self.old self.new result }
     {
-        let pages = survey(file)?;
-        if !has_index(file, index) {
-            return Err(Fault {
-                kind: Refusal::WrongIndex,
-                layer: 1,
-                page: 0,
-                offset: 0,
-            });
+        let checked = Checked::new(file)?;
+        if !has_index(&checked, index) {
+            return Err(Fault::new(Refusal::WrongIndex, 1, 0));
         }
+        let pages = checked.pages();
         self.file = file;
         self.index = index;
         self.leaves = pages;

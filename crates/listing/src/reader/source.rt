@@ -1,52 +1,41 @@
-ghost use Rattle.std.specs.Prelude.{◌≡◌, ◌≤◌};
-ghost use Rattle.listing.specs.Meaning.{listed, page_of};
-ghost use Rattle.listing.specs.Shapes.{Paged};
-ghost use Rattle.listing.specs.Lawful.{listed_lawful};
-ghost use Rattle.pages.specs.Meaning.{fault};
+ghost use Rattle.listing.specs.Meaning.{ink_at, listed, page_of};
+ghost use Rattle.listing.specs.Sources.{PageOf};
 
 use crate::inks::{ink_length, put_ink};
 use crate::reader::Listing;
 use pages::faults::{Fault, Refusal};
-use pages::maps::{Map, Placement, Size};
+use pages::leaf_pages;
+use pages::maps::{Placement, Size};
 use pages::sources::{Source, write};
-
-fn refused(kind: Refusal, page: u32) -> Fault
-    ensures { result ≡ fault kind 1 page }
-{
-    Fault {
-        kind,
-        layer: 1,
-        page,
-        offset: 0,
-    }
-}
+use pages::spans::Span;
+use text::Lent;
 
 impl<'a> Listing<'a> {
-    /// The bytes of a page that there is.
-    fn page(&self, leaf: u32) -> &'a [u8]
-        requires { (1 ≤ leaf) × (leaf ≤ self.now.leaves) }
-        ensures page { result.now ≡ page_of self.now.file.now leaf }
-        ensures shape { Paged result.now }
+    /// The bytes of a leaf's page; the preamble has no page.
+    fn page(&self, leaf: u32) -> Result<Option<&'a [u8]>, Fault>
+        ensures { PageOf self.now.file.now self.now.leaves leaf result }
     {
+        let missing = Fault::new(Refusal::NoSuch, 1, leaf);
+        if leaf > self.leaves {
+            return Err(missing);
+        }
+        if leaf == 0 {
+            return Ok(None);
+        }
+        let Span { offset, length } = Span::at(self.index, leaf as usize).ok_or(missing)?;
         let file = self.file;
-        let index = self.index;
-        let i = 2 * leaf as usize;
-        let offset = index[i] as usize;
-        let length = index[i + 1] as usize;
-        &file[offset..offset + length]
+        let start = offset as usize;
+        Ok(Some(&file[start..start + length as usize]))
     }
 }
 
 impl<'a> Source for Listing<'a> {
     ghost meaning = { λ s. listed s.file.now };
 
-    ghost lawful = { λ s. listed_lawful s.file.now s.clean };
+    ghost lawful = { λ s. s.lawful };
 
     fn size(&self) -> Size {
-        Size {
-            width: 612,
-            height: 792,
-        }
+        Size::LETTER
     }
 
     fn leaves(&self) -> u32 {
@@ -62,43 +51,31 @@ impl<'a> Source for Listing<'a> {
     }
 
     fn laid(&self, page: u32) -> Result<u32, Fault> {
-        if page == 0 || page > self.leaves {
-            return Err(refused(Refusal::NoSuch, page));
-        }
-        Ok(1)
+        leaf_pages::laid(self.leaves, page)
     }
 
     fn place(&self, page: u32, slot: u32) -> Result<Placement, Fault> {
-        if page == 0 || page > self.leaves || slot != 1 {
-            return Err(refused(Refusal::NoSuch, page));
-        }
-        Ok(Placement {
-            leaf: page,
-            map: Map::identity(),
-        })
+        leaf_pages::place(self.leaves, page, slot)
     }
 
     fn length(&self, leaf: u32) -> Result<u32, Fault> {
-        if leaf > self.leaves {
-            return Err(refused(Refusal::NoSuch, leaf));
+        let page = self.page(leaf)?;
+        match page {
+            None => Ok(0),
+            Some(bytes) => Ok(ink_length(bytes) as u32),
         }
-        if leaf == 0 {
-            return Ok(0);
-        }
-        Ok(ink_length(self.page(leaf)))
     }
 
     fn pour(&self, leaf: u32, buffer: &mut [u8], at: usize) -> Result<usize, Fault> {
-        if leaf > self.leaves {
-            return Err(refused(Refusal::NoSuch, leaf));
-        }
-        if leaf == 0 {
+        let Some(page) = self.page(leaf)? else {
             return write(&[], buffer, at);
+        };
+        let full = Fault::new(Refusal::ShortBuffer, 1, 0);
+        if buffer.len() < at || buffer.len() - at < ink_length(page) {
+            return Err(full);
         }
-        let page = self.page(leaf);
-        if buffer.len() < at || buffer.len() - at < ink_length(page) as usize {
-            return Err(refused(Refusal::ShortBuffer, 0));
-        }
-        Ok(put_ink(buffer, at, page))
+        let mut lent = Lent { buffer, at };
+        put_ink(&mut lent, page).ok_or(full)?;
+        Ok(lent.at)
     }
 }

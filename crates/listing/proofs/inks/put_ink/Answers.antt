@@ -1,66 +1,48 @@
-use Rattle.std.proofs.Common.{◌≡◌, ◌+◌, [], ◌∷◌, ◌++◌, length, sym, refl, ap, ◌∙◌, subst, append_assoc, append-nil, arith, length-append}
-use Rattle.text.proofs.Splices.{and_then, wrote_as, wrote_none}
+use Rattle.std.proofs.Common.{true, ◌++◌, length, inl, sym, refl, ap, ◌∙◌, append_assoc, append-nil, subst, arith}
+use Rattle.text.proofs.Taking.{refused, refused_first}
 use Rattle.listing.specs.Inks.{font, ink_of, shown_line, shown_lines}
 use Rattle.listing.specs.Pages.{cut}
-use Rattle.listing.specs.Shapes.{AllWithin}
-use Rattle.listing.proofs.Cuts.{cut_none, cut_split, shorter, some_bytes}
+use Rattle.listing.proofs.Inking.{shown_next}
+use Rattle.listing.proofs.Spans.{extent_cut, length_extent}
 use Rattle.listing.proofs.inks.put_ink.Goals as goal
-use Rattle.listing.proofs.inks.put_ink.Goals.{After-split_once}
 
-split : (c : After-split_once) → cut 10 c.loop-rest.rest.now ≡ c.split_once.result.0.now ∷ cut 10 c.split_once.result.1.now
-split c = cut_split 10 _ _ _ (some_bytes _ c.loop-rest-test.ensures) c.split_once.ensures.first c.split_once.ensures.rest
+pub returns-in_err-take : goal.returns-in_err-take
+returns-in_err-take g c =
+    let laws = g.met.O.Sink in
+    refused_first laws.both laws.short font (shown_lines 0 (cut 10 c.args.page.now)) (ink_of c.args.page.now) refl c.from_residual.ensures c.in_err-take.ensures
 
--- what is written, with the line in front
-texts : (c : After-split_once) → c.loop-rest.invariant.0.0 ++ (shown_line c.loop-rest.i c.split_once.result.0.now ++ shown_lines (c.loop-rest.i + 1) (cut 10 c.split_once.result.1.now)) ≡ shown_lines 0 (cut 10 c.args.page.now)
-texts c = ap (λ ls. c.loop-rest.invariant.0.0 ++ shown_lines c.loop-rest.i ls) (sym (split c)) ∙ c.loop-rest.invariant.0.2
+pub loop-i-init-derived : goal.loop-i-init-derived
+loop-i-init-derived g c =
+    let none = ap (λ e. e.count) c.into_iter-i-iterator.ensures.into_iter_gives ∙ c.enumerate-i-items.ensures.count in
+    let p = c.into_iter-i-iterator.result.iter in
+    let q = ap (λ e. e.iter) c.into_iter-i-iterator.ensures.into_iter_gives ∙ c.enumerate-i-items.ensures.source in
+    let b = ap (λ q. length q.rest.now) q ∙ ap length c.new.ensures.bytes in
+    ((tt, tt, inl (omega (arith, none, b, extent_cut p.separator p.rest.now, length_extent (cut p.separator p.rest.now)))), tt)
 
-pub loop-rest-init : goal.loop-rest-init
-loop-rest-init c = (([], wrote_none _ _, refl), omega (arith, c.requires.paged.lines), c.requires.paged.columns)
-
-pub put_line-end-requires : goal.put_line-end-requires
-put_line-end-requires c =
-    let d = (goal.at.put_line-end-requires c).After-split_once in
-    let e = split d in
-    let i = c.loop-rest.i in
-    let line = c.split_once.result.0.now in
-    let more = c.split_once.result.1.now in record {
-      on_page = omega (arith, ap length e, c.loop-rest.invariant.1);
-      short = (subst (AllWithin 132) e c.loop-rest.invariant.2).0;
-      fits = omega (
-        arith,
-        ap length (texts d),
-        length-append c.loop-rest.invariant.0.0 (shown_line i line ++ shown_lines (i + 1) (cut 10 more)),
-        length-append (shown_line i line) (shown_lines (i + 1) (cut 10 more)),
-        c.loop-rest.invariant.0.1.ends,
-        c.put_font-end.ensures.ends,
-        c.loop-rest.auto.buffer,
-        c.requires.fits,
-      );
-    }
-
-pub loop-rest-smaller : goal.loop-rest-smaller
-loop-rest-smaller c = shorter 10 _ _ (some_bytes _ c.loop-rest-test.ensures) c.split_once.ensures.rest
-
-pub loop-rest-preserved : goal.loop-rest-preserved
-loop-rest-preserved c =
-    let d = (goal.at.loop-rest-preserved c).After-split_once in
-    let e = split d in
-    let inv = c.loop-rest.invariant.0 in
-    let i = c.loop-rest.i in
-    let line = c.split_once.result.0.now in
-    let more = c.split_once.result.1.now in (
-      (
-        inv.0 ++ shown_line i line,
-        and_then (omega (arith, c.put_font-end.ensures.ends, c.requires.fits)) inv.1 c.put_line-end.ensures,
-        append_assoc inv.0 (shown_line i line) (shown_lines (i + 1) (cut 10 more)) ∙ texts d,
-      ),
-      omega (arith, ap length e, c.loop-rest.invariant.1),
-      (subst (AllWithin 132) e c.loop-rest.invariant.2).1,
+pub loop-i-preserved : goal.loop-i-preserved
+loop-i-preserved g c =
+    let inv = c.loop-i.invariant in
+    let n = c.in-Some.ensures.steps in (
+      inv.0 ++ shown_line c.in-Some.i c.in-Some.line.now,
+      g.met.O.Sink.both _ _ _ _ _ true inv.1 c.in_ok-put_line.ensures,
+      shown_next inv.0 _ _ _ _ _ _ c.in-Some.line.now inv.2 n.0 n.1 n.2,
     )
 
+pub returns-in_err-put_line : goal.returns-in_err-put_line
+returns-in_err-put_line g c =
+    let laws = g.met.O.Sink in
+    let inv = c.loop-i.invariant in
+    let n = c.in-Some.ensures.steps in
+    let line = shown_line c.in-Some.i c.in-Some.line.now in
+    let rest = c.next.new.self.iter in
+    let more = shown_lines c.next.new.self.count (cut rest.separator rest.rest.now) in
+    refused laws.both laws.short (font ++ inv.0) line more (ink_of c.args.page.now)
+    (ap (λ z. z ++ more) (append_assoc font inv.0 line) ∙ append_assoc font (inv.0 ++ line) more
+    ∙ ap (λ z. font ++ z) (shown_next inv.0 _ _ _ _ _ _ c.in-Some.line.now inv.2 n.0 n.1 n.2))
+    c.from_residual-in_err-put_line.ensures (laws.both _ _ _ _ _ true c.in_ok-take.ensures inv.1) c.in_err-put_line.ensures
+
 pub returns : goal.returns
-returns c =
-    let inv = c.loop-rest.invariant.0 in
-    let all : inv.0 ≡ shown_lines 0 (cut 10 c.args.page.now) =
-    sym (append-nil inv.0) ∙ ap (λ ls. inv.0 ++ shown_lines c.loop-rest.i ls) (sym (cut_none 10 _ c.loop-rest-test.ensures)) ∙ inv.2 in
-    wrote_as (ink_of c.args.page.now) (ap (λ xs. font ++ xs) all) (and_then (omega (arith, c.requires.fits)) c.put_font-end.ensures inv.1)
+returns g c =
+    let inv = c.loop-i.invariant in
+    let all = sym (append-nil inv.0) ∙ ap (λ ls. inv.0 ++ shown_lines c.loop-i.i-iterator.count ls) (sym c.in-None.ensures.steps.0.0) ∙ inv.2 in
+    subst (λ xs. g.O.Sink.takes c.args.out.now (font ++ xs) true c.loop-i.out) all (g.met.O.Sink.both _ _ _ _ _ true c.in_ok-take.ensures inv.1)

@@ -1,15 +1,10 @@
-use Rattle.std.proofs.Common.{◌≡◌, ℕ, ◌+◌, ◌≤◌, List, ◌++◌, length}
-use Rattle.text.specs.Writes.{Wrote}
+use Rattle.std.proofs.Common.{◌≡◌, ℕ, true, List, ◌++◌}
 use Rattle.listing.specs.Inks.{shown_lines}
 use Rattle.listing.specs.Pages.{cut}
-use Rattle.listing.specs.Shapes.{AllWithin}
 use Rattle.listing.proofs.inks.put_ink.Given as goal
 
-abbrev pub invariant-loop-rest : goal.invariant-loop-rest
-invariant-loop-rest l =
-    ((xs : List ℕ) × Wrote l.initial.buffer l.initial.end xs l.buffer l.end × (xs ++ shown_lines l.i (cut 10 l.rest) ≡ shown_lines 0 (cut 10 l.page)))
-    × (l.i + length (cut 10 l.rest) ≤ 66)
-    × AllWithin 132 (cut 10 l.rest)
-
-abbrev pub decreases-loop-rest : goal.decreases-loop-rest
-decreases-loop-rest l = length l.rest
+-- the lines that were put, and those that are left
+abbrev pub invariant-loop-i : goal.invariant-loop-i
+invariant-loop-i g l =
+    (xs : List ℕ) × g.O.Sink.takes l.initial.out xs true l.out
+    × (xs ++ shown_lines l.i-iterator.count (cut l.i-iterator.iter.separator l.i-iterator.iter.rest.now) ≡ shown_lines 0 (cut 10 l.page))

@@ -1,31 +1,25 @@
-use Rattle.std.proofs.Common.{◌≡◌, ℕ, ◌+◌, ◌-◌, ◌≤◌, length, take, sym, ap, ◌∙◌, subst, arith}
-use Rattle.text.proofs.Puts.{put_not_none, put_wrote}
-use Rattle.text.proofs.Splices.{take-splice, wrote_as}
+use Rattle.std.proofs.Common.{true, [], ◌++◌, ◌∷◌, codes, decimal, is_some, sym, ◌∙◌, subst, append_assoc}
+use Rattle.text.proofs.Taking.{refused, refused_first}
 use Rattle.listing.specs.Inks.{escaped, shown_line}
-use Rattle.listing.specs.Inking.{escaped_le, line_pieces, pieced}
+use Rattle.listing.proofs.Inking.{line_parts}
 use Rattle.listing.proofs.inks.put_line.Goals as goal
-use Rattle.listing.proofs.inks.put_line.Goals.{After-put}
 
-pub put_escaped-n-requires : goal.put_escaped-n-requires
-put_escaped-n-requires c = omega (arith, escaped_le c.args.line.now, c.requires.short)
+pub returns-in_err-put_pieces : goal.returns-in_err-put_pieces
+returns-in_err-put_pieces g c =
+    let laws = g.met.O.Sink in
+    let start = codes "36 " ++ (decimal c.baseline.result ++ (codes " moveto (" ++ [])) in
+    let end = codes ") show" ++ 10 ∷ [] in
+    let more = escaped c.args.line.now ++ end in
+    refused_first laws.both laws.short start more (shown_line c.args.i c.args.line.now)
+    (sym (append_assoc start (escaped c.args.line.now) end) ∙ line_parts c.args.i c.baseline.result c.args.line.now c.baseline.ensures) c.from_residual.ensures c.in_err-put_pieces.ensures
 
-pub slice_bounds-pieces-end-3 : goal.slice_bounds-pieces-end-3
-slice_bounds-pieces-end-3 c = omega (arith, escaped_le c.args.line.now, c.requires.short, c.put_escaped-n.ensures.ends)
-
--- the escaped line stands at the start of the space
-spaced : (c : After-put) → take (c.put_escaped-n.result - 0) c.put_escaped-n.new.out ≡ escaped c.args.line.now
-spaced c =
-    let n : 0 + length (escaped c.args.line.now) ≡ c.put_escaped-n.result - 0 = omega (arith, c.put_escaped-n.ensures.ends) in
-    ap (take (c.put_escaped-n.result - 0)) c.put_escaped-n.ensures.holds ∙ take-splice _ 0 (escaped c.args.line.now) (c.put_escaped-n.result - 0) n (omega arith)
-
-pub unreachable-requires : goal.unreachable-requires
-unreachable-requires c =
-    let text = line_pieces c.args.i c.baseline.result c.args.line.now _ c.baseline.ensures (spaced (goal.at.unreachable-requires c).After-put) in
-    put_not_none (pieced c.baseline.result (take (c.put_escaped-n.result - 0) c.put_escaped-n.new.out)) c.args.buffer.now c.args.at (subst (λ (n : ℕ). c.args.at + n ≤ length c.args.buffer.now) (sym (ap length text)) c.requires.fits) c.in-None.ensures.answer
+pub returns-in_err-put_escaped : goal.returns-in_err-put_escaped
+returns-in_err-put_escaped g c =
+    let laws = g.met.O.Sink in
+    refused laws.both laws.short _ (escaped c.args.line.now) _ _ (line_parts c.args.i c.baseline.result c.args.line.now c.baseline.ensures) c.from_residual-in_err-put_escaped.ensures c.in_ok-put_pieces.ensures c.in_err-put_escaped.ensures
 
 pub returns : goal.returns
-returns c =
-    let text = line_pieces c.args.i c.baseline.result c.args.line.now _ c.baseline.ensures (spaced (goal.at.returns c).After-put) in
-    wrote_as (shown_line c.args.i c.args.line.now) text
-    (put_wrote (pieced c.baseline.result (take (c.put_escaped-n.result - 0) c.put_escaped-n.new.out)) c.args.buffer.now c.args.at (subst (λ (n : ℕ). c.args.at + n ≤ length c.args.buffer.now) (sym (ap length text)) c.requires.fits)
-    c.put.new.buffer c.in-Some.end c.in-Some.ensures.after c.in-Some.ensures.answer)
+returns g c =
+    let laws = g.met.O.Sink in
+    subst (λ text. g.O.Sink.takes c.args.out.now text (is_some c.take.result) c.take.new.self) (line_parts c.args.i c.baseline.result c.args.line.now c.baseline.ensures)
+    (laws.both _ _ _ _ _ _ (laws.both _ _ _ _ _ true c.in_ok-put_pieces.ensures c.in_ok-put_escaped.ensures) c.take.ensures)

@@ -1,5 +1,5 @@
-use Rattle.listing.specs.Bounds.{bounds}
-use Rattle.listing.specs.Parting.{parted}
+use Rattle.listing.proofs.Bounds.{bounds}
+use Rattle.listing.proofs.Parting.{parted}
 use Rattle.listing.proofs.laws.listings_are_their_pages.Goals as goal
 
 pub returns : goal.returns

@@ -1,67 +1,57 @@
-use Rattle.std.proofs.Common.{◌≡◌, ◌+◌, [], ◌∷◌, ◌++◌, length, sym, refl, ap, ◌∙◌, append_assoc, append-nil, add_assoc, arith, length-append, length-drop}
-use Rattle.text.proofs.Splices.{and_then, wrote_as, wrote_none}
-use Rattle.listing.specs.Pages.{cut}
-use Rattle.listing.specs.Scans.{file_index, index_from}
-use Rattle.listing.proofs.Cuts.{cut_none, cut_split, next_place, shorter, some_bytes}
+use Rattle.std.proofs.Common.{◌≡◌, ℕ, ◌+◌, ◌*◌, [], ◌∷◌, ◌++◌, length, sym, refl, inl, ap, ◌∙◌, arith, length-append}
+use Rattle.pages.specs.Spans.{pair}
+use Rattle.std.specs.List.{flat_map}
+use Rattle.text.proofs.Splices.{splice_none}
+use Rattle.listing.specs.Scans.{file_index}
+use Rattle.listing.specs.Spans.{spans_left}
+use Rattle.listing.proofs.Spans.{few_left, pair_put, pair_room, pairs_left, put_after, put_goes}
 use Rattle.listing.proofs.scans.fill.Goals as goal
 
-pub loop-rest-init : goal.loop-rest-init
-loop-rest-init c = (([], wrote_none _ _, refl), refl, omega arith)
+pub loop-i-init-derived : goal.loop-i-init-derived
+loop-i-init-derived c =
+    let none = ap (λ e. e.count) c.into_iter-i-iterator.ensures.into_iter_gives ∙ c.enumerate-i-items.ensures.count in
+    ((tt, tt, inl (omega (arith, none, few_left c.into_iter-i-iterator.result.iter))), tt)
 
-pub overflow_cast-page : goal.overflow_cast-page
-overflow_cast-page c = omega (arith, c.split_once.ensures.short, ap length c.loop-rest.invariant.1, length-drop c.loop-rest.at c.args.file.now, c.requires.in_bounds)
-
-pub overflow_cast-at : goal.overflow_cast-at
-overflow_cast-at c = omega (arith, c.split_once.ensures.short, ap length c.loop-rest.invariant.1, length-drop c.loop-rest.at c.args.file.now, c.requires.in_bounds)
-
-pub overflow_add-at : goal.overflow_add-at
-overflow_add-at c = omega (arith, c.split_once.ensures.short, ap length c.loop-rest.invariant.1, length-drop c.loop-rest.at c.args.file.now, c.requires.in_bounds)
-
-pub overflow_add-at-in-loop-rest : goal.overflow_add-at-in-loop-rest
-overflow_add-at-in-loop-rest c = omega (arith, c.split_once.ensures.short, ap length c.loop-rest.invariant.1, length-drop c.loop-rest.at c.args.file.now, c.requires.in_bounds)
-
-pub loop-rest-smaller : goal.loop-rest-smaller
-loop-rest-smaller c = shorter 12 _ _ (some_bytes _ c.loop-rest-test.ensures) c.split_once.ensures.rest
-
-pub put_pair-k-requires-in-loop-rest : goal.put_pair-k-requires-in-loop-rest
-put_pair-k-requires-in-loop-rest c =
-    let some = some_bytes _ c.loop-rest-test.ensures in
-    let inv = c.loop-rest.invariant.0 in
-    omega (
-      arith,
-      inv.1.ends,
-      c.put_pair-k.ensures.ends,
-      c.loop-rest.auto.index,
-      c.requires,
-      ap (λ ps. length (index_from c.loop-rest.at ps)) (cut_split 12 _ _ _ some c.split_once.ensures.first c.split_once.ensures.rest),
-      ap length inv.2,
-      length-append inv.0 (index_from c.loop-rest.at (cut 12 c.loop-rest.rest.now)),
+pub loop-i-init : goal.loop-i-init
+loop-i-init c =
+    let gives = c.into_iter-i-iterator.ensures.into_iter_gives in
+    let none = ap (λ e. e.count) gives ∙ c.enumerate-i-items.ensures.count in
+    let same = ap (λ e. e.iter) gives ∙ c.enumerate-i-items.ensures.source in
+    let index = c.args.index.now in (
+      0 ∷ 0 ∷ [],
+      omega (arith, none),
+      c.in_ok-put.ensures.after ∙ put_after index index [] 0 (record { offset = 0; length = 0 }) (sym (splice_none index 0)) refl (omega (arith, c.requires)),
+      ap (λ s. 0 ∷ 0 ∷ flat_map pair (spans_left s)) same
+          ∙ ap (λ z. 0 ∷ 0 ∷ z) (pairs_left c.spans.result c.args.checked.now.file.now c.spans.ensures.start c.spans.ensures.pages),
     )
 
-pub loop-rest-preserved : goal.loop-rest-preserved
-loop-rest-preserved c =
-    let some = some_bytes _ c.loop-rest-test.ensures in
-    let inv = c.loop-rest.invariant.0 in
-    let at = c.loop-rest.at in
-    let page = c.split_once.result.0.now in
-    let more = c.split_once.result.1.now in
-    let pair = at ∷ length page ∷ [] in
-    let step = ap (index_from at) (cut_split 12 _ page more some c.split_once.ensures.first c.split_once.ensures.rest) in
-    let after = next_place 12 c.args.file.now c.loop-rest.rest.now page more at c.loop-rest.invariant.1 some c.split_once.ensures.first c.split_once.ensures.rest in (
-      (
-        inv.0 ++ pair,
-        and_then (omega arith) inv.1 c.put_pair-k-in-loop-rest.ensures,
-        append_assoc inv.0 pair (index_from (at + (length page + 1)) (cut 12 more))
-            ∙ ap (λ n. inv.0 ++ (at ∷ length page ∷ index_from n (cut 12 more))) (sym (add_assoc at (length page) 1))
-            ∙ ap (λ xs. inv.0 ++ xs) (sym step) ∙ inv.2,
-      ),
-      after.0,
-      after.1,
+pub loop-i-preserved : goal.loop-i-preserved
+loop-i-preserved c =
+    let inv = c.loop-i.invariant in
+    let n = c.in-Some.ensures.steps in
+    let s = c.in-Some.span in
+    let k : length inv.0 ≡ 2 * (c.in-Some.i + 1) = omega (arith, inv.1, n.1) in
+    let room = pair_room inv.0 (file_index c.args.checked.now.file.now) _ _ s inv.3 n.0 in (
+      inv.0 ++ pair s,
+      omega (arith, length-append inv.0 (pair s), inv.1, n.2),
+      c.in_ok-put-2.ensures.after ∙ put_after c.args.index.now c.loop-i.index inv.0 (2 * (c.in-Some.i + 1)) s inv.2 k (omega (arith, room, k, c.loop-i.auto.index, c.requires)),
+      pair_put inv.0 (file_index c.args.checked.now.file.now) _ _ s inv.3 n.0,
     )
 
-pub returns : goal.returns
-returns c =
-    let inv = c.loop-rest.invariant.0 in
-    let all : inv.0 ≡ index_from 0 (cut 12 c.args.file.now) =
-    sym (append-nil inv.0) ∙ ap (λ ps. inv.0 ++ index_from c.loop-rest.at ps) (sym (cut_none 12 _ c.loop-rest-test.ensures)) ∙ inv.2 in
-    (wrote_as (file_index c.args.file.now) (ap (λ xs. 0 ∷ 0 ∷ xs) all) (and_then (omega arith) c.put_pair-k.ensures inv.1)).holds
+pub returns-in_err-put-2-clause-answer : goal.returns-in_err-put-2-clause-answer
+returns-in_err-put-2-clause-answer c =
+    let inv = c.loop-i.invariant in
+    let n = c.in-Some.ensures.steps in
+    let k : length inv.0 ≡ 2 * (c.in-Some.i + 1) = omega (arith, inv.1, n.1) in
+    let room = pair_room inv.0 (file_index c.args.checked.now.file.now) _ _ c.in-Some.span inv.3 n.0 in
+    let goes = c.in_err-put-2.ensures.answer ∙ put_goes (c.in-Some.i + 1) (length c.loop-i.index) (omega (arith, room, k, c.loop-i.auto.index, c.requires)) in
+    absurd (let z : ◌≡◌ {A = ℕ} 0 1 = cc in omega arith)
+
+pub returns-in_err-put-2-clause-after : goal.returns-in_err-put-2-clause-after
+returns-in_err-put-2-clause-after c =
+    let inv = c.loop-i.invariant in
+    let n = c.in-Some.ensures.steps in
+    let k : length inv.0 ≡ 2 * (c.in-Some.i + 1) = omega (arith, inv.1, n.1) in
+    let room = pair_room inv.0 (file_index c.args.checked.now.file.now) _ _ c.in-Some.span inv.3 n.0 in
+    let goes = c.in_err-put-2.ensures.answer ∙ put_goes (c.in-Some.i + 1) (length c.loop-i.index) (omega (arith, room, k, c.loop-i.auto.index, c.requires)) in
+    absurd (let z : ◌≡◌ {A = ℕ} 0 1 = cc in omega arith)

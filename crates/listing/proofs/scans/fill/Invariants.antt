@@ -1,14 +1,12 @@
-use Rattle.std.proofs.Common.{◌≡◌, ℕ, ◌+◌, ◌≤◌, List, ◌++◌, length, drop}
-use Rattle.text.specs.Writes.{Wrote}
-use Rattle.listing.specs.Pages.{cut}
-use Rattle.listing.specs.Scans.{index_from}
+use Rattle.std.proofs.Common.{◌≡◌, ℕ, ◌+◌, ◌*◌, List, ◌++◌, length}
+use Rattle.std.specs.List.{flat_map}
+use Rattle.pages.specs.Spans.{pair}
+use Rattle.pages.specs.Splice.{splice}
+use Rattle.listing.specs.Scans.{file_index}
+use Rattle.listing.specs.Spans.{spans_left}
 use Rattle.listing.proofs.scans.fill.Given as goal
 
-abbrev pub invariant-loop-rest : goal.invariant-loop-rest
-invariant-loop-rest l =
-    ((xs : List ℕ) × Wrote l.initial.index l.initial.k xs l.index l.k × (xs ++ index_from l.at (cut 12 l.rest) ≡ index_from 0 (cut 12 l.file)))
-    × (l.rest ≡ drop l.at l.file)
-    × (l.at ≤ length l.file + 1)
-
-abbrev pub decreases-loop-rest : goal.decreases-loop-rest
-decreases-loop-rest l = length l.rest
+-- the pairs that stand in the index, and those of the pages that are left
+abbrev pub invariant-loop-i : goal.invariant-loop-i
+invariant-loop-i l =
+    (xs : List ℕ) × (length xs ≡ 2 * (l.i-iterator.count + 1)) × (l.index ≡ splice l.fn.index 0 xs) × (xs ++ flat_map pair (spans_left l.i-iterator.iter) ≡ file_index l.checked.file.now)

@@ -1,19 +1,26 @@
-use Rattle.std.proofs.Common.{refl, inr, arith}
+use Rattle.std.proofs.Common.{length, refl, inr, ap, ◌∙◌, subst, arith}
+use Rattle.pages.specs.Splice.{splice}
 use Rattle.listing.specs.Pages.{cut}
+use Rattle.listing.specs.Scans.{Good, file_index}
+use Rattle.listing.proofs.Bounds.{good}
 use Rattle.listing.proofs.Cuts.{length-index}
 use Rattle.listing.proofs.scans.scan.Goals as goal
 
 pub returns-then-index-pages : goal.returns-then-index-pages
 returns-then-index-pages c =
-    let told = c.in_ok-pages.ensures in
-    (refl, inr (told.0, omega (arith, told.1, length-index 0 (cut 12 c.args.file.now), c.if-index-pages.true), refl))
+    let same = c.in_ok-checked.ensures in
+    let pages = c.pages-pages.ensures ∙ ap (λ f. length (cut 12 f)) same in
+    (refl, inr (subst Good same (good c.in_ok-checked.checked), omega (arith, pages, length-index 0 (cut 12 c.args.file.now), c.if-index-pages.true), c.new-then-index-pages.ensures))
 
 pub fill-requires : goal.fill-requires
-fill-requires c =
-    let told = c.in_ok-pages.ensures in
-    record { in_bounds = told.0.short; index_fits = omega (arith, told.1, length-index 0 (cut 12 c.args.file.now), c.if-index-pages.false) }
+fill-requires c = omega (arith, c.pages-pages.ensures, length-index 0 (cut 12 c.in_ok-checked.checked.file.now), c.if-index-pages.false)
 
 pub returns : goal.returns
 returns c =
-    let told = c.in_ok-pages.ensures in
-    (told.0, told.1, omega (arith, told.1, length-index 0 (cut 12 c.args.file.now), c.if-index-pages.false), c.fill.ensures)
+    let same = c.in_ok-checked.ensures in
+    let pages = c.pages-pages.ensures ∙ ap (λ f. length (cut 12 f)) same in (
+      subst Good same (good c.in_ok-checked.checked),
+      pages,
+      omega (arith, pages, length-index 0 (cut 12 c.args.file.now), c.if-index-pages.false),
+      c.fill.ensures.after ∙ ap (λ f. splice c.args.index.now 0 (file_index f)) same,
+    )

@@ -1,96 +1,51 @@
-use Rattle.std.proofs.Common.{◌≡◌, ◌+◌, ◌≤◌, [], ◌∷◌, ◌++◌, length, take, sym, refl, ap, ◌∙◌, append_assoc, append-nil, add_assoc, arith, length-append, length-drop}
+use Rattle.std.proofs.Common.{◌≡◌, ◌+◌, ◌*◌, [], ◌∷◌, ◌++◌, length, take, drop, sym, refl, inl, ap, ◌∙◌, arith, length-append}
 use Rattle.std.proofs.lemmas.Bool.{false≢true}
-use Rattle.listing.specs.Pages.{cut}
-use Rattle.listing.specs.Scans.{file_index, index_from}
-use Rattle.listing.specs.Bounds.{bounds}
-use Rattle.listing.proofs.Cuts.{cut_none, cut_split, length-index, next_place, shorter, some_bytes}
+use Rattle.pages.specs.Spans.{pair}
+use Rattle.std.specs.List.{flat_map}
+use Rattle.listing.specs.Scans.{file_index}
+use Rattle.listing.specs.Spans.{spans_left}
 use Rattle.listing.proofs.Pairs.{pair_more, pair_within}
+use Rattle.listing.proofs.Spans.{few_left, pair_next, pair_put, pairs_left}
 use Rattle.listing.proofs.reader.loading.has_index.Goals as goal
-use Rattle.listing.proofs.reader.loading.has_index.Goals.{After-split_once}
 
-pub loop-rest-init : goal.loop-rest-init
-loop-rest-init c = ((0 ∷ 0 ∷ [], refl, c.if-not-has_pair.ensures.0 refl, refl), refl, omega arith)
+pub loop-i-init-derived : goal.loop-i-init-derived
+loop-i-init-derived c =
+    let none = ap (λ e. e.count) c.into_iter-i-iterator.ensures.into_iter_gives ∙ c.enumerate-i-items.ensures.count in
+    ((tt, tt, inl (omega (arith, none, few_left c.into_iter-i-iterator.result.iter))), tt)
 
-pub overflow_cast-page : goal.overflow_cast-page
-overflow_cast-page c = omega (arith, c.split_once.ensures.short, ap length c.loop-rest.invariant.1, length-drop c.loop-rest.at c.args.file.now, c.requires.short)
-
-pub overflow_cast-at : goal.overflow_cast-at
-overflow_cast-at c = omega (arith, c.split_once.ensures.short, ap length c.loop-rest.invariant.1, length-drop c.loop-rest.at c.args.file.now, c.requires.short)
-
-pub overflow_add-at : goal.overflow_add-at
-overflow_add-at c = omega (arith, c.split_once.ensures.short, ap length c.loop-rest.invariant.1, length-drop c.loop-rest.at c.args.file.now, c.requires.short)
-
-pub overflow_add-at-in-loop-rest : goal.overflow_add-at-in-loop-rest
-overflow_add-at-in-loop-rest c = omega (arith, c.split_once.ensures.short, ap length c.loop-rest.invariant.1, length-drop c.loop-rest.at c.args.file.now, c.requires.short)
-
-pub loop-rest-smaller : goal.loop-rest-smaller
-loop-rest-smaller c = shorter 12 _ _ (some_bytes _ c.loop-rest-test.ensures) c.split_once.ensures.rest
-
--- the numbers of an index are few
-few : (c : After-split_once) → c.loop-rest.k ≤ 8194
-few c =
-    let inv = c.loop-rest.invariant.0 in
-    omega (
-      arith,
-      inv.1,
-      ap length inv.3,
-      length-append inv.0 (index_from c.loop-rest.at (cut 12 c.loop-rest.rest.now)),
-      length-index 0 (cut 12 c.args.file.now),
-      (bounds c.args.file.now c.requires.clean).0,
+pub loop-i-init : goal.loop-i-init
+loop-i-init c =
+    let gives = c.into_iter-i-iterator.ensures.into_iter_gives in
+    let none = ap (λ e. e.count) gives ∙ c.enumerate-i-items.ensures.count in
+    let same = ap (λ e. e.iter) gives ∙ c.enumerate-i-items.ensures.source in (
+      0 ∷ 0 ∷ [],
+      omega (arith, none),
+      c.if-not-has_span.ensures.0 refl,
+      ap (λ s. 0 ∷ 0 ∷ flat_map pair (spans_left s)) same
+          ∙ ap (λ z. 0 ∷ 0 ∷ z) (pairs_left c.spans.result c.args.checked.now.file.now c.spans.ensures.start c.spans.ensures.pages),
     )
 
-pub has_pair-requires-in-loop-rest : goal.has_pair-requires-in-loop-rest
-has_pair-requires-in-loop-rest c = omega (arith, few (goal.at.has_pair-requires-in-loop-rest c).After-split_once)
-
-pub overflow_add-k : goal.overflow_add-k
-overflow_add-k c = omega (arith, few (goal.at.overflow_add-k c).After-split_once)
-
--- the pair of the page in front, and those that follow
-parts : (c : After-split_once) → c.loop-rest.invariant.0.0 ++ (c.loop-rest.at ∷ length c.split_once.result.0.now ∷ index_from (c.loop-rest.at + length c.split_once.result.0.now + 1) (cut 12 c.split_once.result.1.now)) ≡ file_index c.args.file.now
-parts c =
-    ap (λ ps. c.loop-rest.invariant.0.0 ++ index_from c.loop-rest.at ps)
-    (sym (cut_split 12 _ _ _ (some_bytes _ c.loop-rest-test.ensures) c.split_once.ensures.first c.split_once.ensures.rest))
-    ∙ c.loop-rest.invariant.0.3
-
-pub returns-then-not-has_pair : goal.returns-then-not-has_pair
-returns-then-not-has_pair c = (
-  (λ f. absurd (false≢true f)),
-  (λ e. c.if-not-has_pair.ensures.1 (pair_within c.args.index.now [] (index_from 0 (cut 12 c.args.file.now)) (file_index c.args.file.now) 0 0 0 refl refl e)),
-)
-
-pub returns-then-not-has_pair-2 : goal.returns-then-not-has_pair-2
-returns-then-not-has_pair-2 c =
-    let d = (goal.at.returns-then-not-has_pair-2 c).After-split_once in
-    let inv = c.loop-rest.invariant.0 in (
+pub returns-then-not-has_span-2 : goal.returns-then-not-has_span-2
+returns-then-not-has_span-2 c =
+    let inv = c.loop-i.invariant in
+    let n = c.in-Some.ensures.steps in
+    let index = c.args.index.now in
+    let k : length inv.0 ≡ 2 * (c.in-Some.i + 1) = omega (arith, inv.1, n.1) in
+    let parts = pair_next inv.0 (file_index c.args.checked.now.file.now) _ _ c.in-Some.span inv.3 n.0 in (
       (λ f. absurd (false≢true f)),
-      (λ e. c.if-not-has_pair-2.ensures.1 (pair_within c.args.index.now inv.0 _ (file_index c.args.file.now) c.loop-rest.k _ _ inv.1 (parts d) e)),
+      (λ e. c.if-not-has_span-2.ensures.1 (pair_within index inv.0 _ (file_index c.args.checked.now.file.now) _ _ _ k parts e)),
     )
 
-pub loop-rest-preserved : goal.loop-rest-preserved
-loop-rest-preserved c =
-    let d = (goal.at.loop-rest-preserved c).After-split_once in
-    let inv = c.loop-rest.invariant.0 in
-    let at = c.loop-rest.at in
-    let page = c.split_once.result.0.now in
-    let more = c.split_once.result.1.now in
-    let pair = at ∷ length page ∷ [] in
-    let some = some_bytes _ c.loop-rest-test.ensures in
-    let next = next_place 12 c.args.file.now c.loop-rest.rest.now page more at c.loop-rest.invariant.1 some c.split_once.ensures.first c.split_once.ensures.rest in (
-      (
-        inv.0 ++ pair,
-        omega (arith, length-append inv.0 pair, inv.1),
-        pair_more c.args.index.now inv.0 c.loop-rest.k at (length page) inv.2 (c.if-not-has_pair-2.ensures.0 refl),
-        append_assoc inv.0 pair (index_from (at + (length page + 1)) (cut 12 more))
-            ∙ ap (λ n. inv.0 ++ (at ∷ length page ∷ index_from n (cut 12 more))) (sym (add_assoc at (length page) 1)) ∙ parts d,
-      ),
-      next.0,
-      next.1,
+pub loop-i-preserved : goal.loop-i-preserved
+loop-i-preserved c =
+    let inv = c.loop-i.invariant in
+    let n = c.in-Some.ensures.steps in
+    let index = c.args.index.now in
+    let s = c.in-Some.span in
+    let k : 2 * (c.in-Some.i + 1) ≡ length inv.0 = omega (arith, inv.1, n.1) in
+    let here = ap (λ m. take 2 (drop m index)) (sym k) ∙ c.if-not-has_span-2.ensures.0 refl in (
+      inv.0 ++ pair s,
+      omega (arith, length-append inv.0 (pair s), inv.1, n.2),
+      ap (λ m. take m index) (length-append inv.0 (pair s)) ∙ pair_more index inv.0 (length inv.0) s.offset s.length inv.2 here,
+      pair_put inv.0 (file_index c.args.checked.now.file.now) _ _ s inv.3 n.0,
     )
-
-pub returns : goal.returns
-returns c =
-    let inv = c.loop-rest.invariant.0 in
-    let all : inv.0 ≡ file_index c.args.file.now =
-    sym (append-nil inv.0) ∙ ap (λ ps. inv.0 ++ index_from c.loop-rest.at ps) (sym (cut_none 12 _ c.loop-rest-test.ensures)) ∙ inv.3 in
-    let long : length (file_index c.args.file.now) ≡ c.loop-rest.k = sym (ap length all) ∙ inv.1 in
-    ((λ _. ap (λ n. take n c.args.index.now) long ∙ inv.2 ∙ all), (λ _. refl))

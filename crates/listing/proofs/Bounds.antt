@@ -5,9 +5,11 @@ use Rattle.pages.specs.declared.faults.Fault.{Fault}
 use Rattle.pages.specs.declared.faults.Refusal.{Refusal}
 use Rattle.listing.specs.Pages.{cut, onto}
 use Rattle.listing.specs.Places.{Within, after, fault_at, or_fault, refusal, top}
+use Rattle.listing.specs.Scans.{Good}
 use Rattle.listing.specs.Shapes.{AllPaged, AllWithin}
+use Rattle.listing.specs.declared.checked.Checked.{Checked}
 use Rattle.listing.specs.declared.places.Place.{Place}
-use Rattle.listing.specs.Refusals.{Sound, sound, within_after}
+use Rattle.listing.proofs.Refusals.{Sound, sound, within_after}
 
 -- the lines that are left of a page, where the next byte is number c of line l
 abbrev Rest : ℕ → ℕ → List (List ℕ) → Type 0
@@ -84,3 +86,6 @@ bounds file e = start (cut 12 file) (left file top 0 (omega arith, omega arith, 
 pub none_from : (o : Option Fault) → is_some o ≡ false → o ≡ None
 none_from None e = refl
 none_from (Some f) e = absurd (let z : ◌≡◌ {A = ℕ} 0 1 = cc in omega arith)
+
+pub good : (k : Checked) → Good k.file.now
+good k = record { short = k.short; clean = none_from _ k.clean }

@@ -13,9 +13,9 @@ use Rattle.listing.specs.Meaning.{ink_at, listed, page_of}
 use Rattle.listing.specs.Pages.{cut}
 use Rattle.listing.specs.Places.{refusal, top}
 use Rattle.listing.specs.Shapes.{AllFree, AllPaged, AllWithin, Paged, free}
-use Rattle.listing.specs.Bounds.{bounds, none_from}
-use Rattle.listing.specs.Inking.{escaped_le, length-shown, short_decimal}
-use Rattle.listing.specs.Parting.{parts_free}
+use Rattle.listing.proofs.Bounds.{bounds, none_from}
+use Rattle.listing.proofs.Inking.{escaped_le, length-shown, short_decimal}
+use Rattle.listing.proofs.Parting.{parts_free}
 
 paged_at : (ps : List (List ℕ)) (i : ℕ) → i < length ps → AllPaged ps → Paged (get_or ps i [])
 paged_at [] i h a = absurd (omega arith)

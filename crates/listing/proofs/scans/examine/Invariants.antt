@@ -1,6 +1,0 @@
-use Rattle.std.proofs.Common.{◌≡◌, drop}
-use Rattle.listing.specs.Places.{Within, refusal, top}
-use Rattle.listing.proofs.scans.examine.Given as goal
-
-abbrev pub invariant-loop-i : goal.invariant-loop-i
-invariant-loop-i l = Within l.place × (refusal l.place l.i (drop l.i l.file) ≡ refusal top 0 l.file)
