@@ -27,7 +27,7 @@ module _ (s : Signature) where
   long : length u ≤ 4
   long = let l = length-letters s.word.len s.word.mask in let k = s.word.lettered in omega arith
 
-  grid : Grid (rows_of u) (columns_of u)
+  pub grid : Grid (rows_of u) (columns_of u)
   grid =
       let l = count-all u in
       let h = long in
@@ -72,9 +72,6 @@ row_below r c x a h = omega (arith, div_below x c r a h)
 
 pub column_below : (c x : ℕ) → 1 ≤ c → x % c + 1 ≤ c
 column_below c x a = omega (arith, mod_below x c a)
-
-pub one_more : (a b : ℕ) → 1 ≤ a → 1 ≤ b → 1 ≤ a * b
-one_more a b h k = mul-le 1 1 a b h k
 
 -- the signature of one of the sides takes its pages from those that there are
 pub before_fits : (t k P p : ℕ) → 1 ≤ k → 1 ≤ p → p ≤ P / t * (2 * k) → (p - 1) / 2 / k * t + t ≤ P

@@ -2,4 +2,5 @@
 #![tactic(auto)]
 
 pub mod imposition;
+mod laid_side;
 pub mod laws;
