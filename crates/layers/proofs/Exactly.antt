@@ -4,10 +4,10 @@ use Rattle.std.proofs.lemmas.List.{take_all}
 use Rattle.std.proofs.lemmas.Bool.{and_parts}
 use Rattle.pages.specs.Limits.{max_placements}
 use Rattle.pages.specs.Maps.{fits, followed, composed}
-use Rattle.pages.specs.Meaning.{Meaning, has}
+use Rattle.pages.specs.Meaning.{Meaning}
 use Rattle.pages.specs.declared.maps.Map.{Map}
 use Rattle.pages.specs.declared.maps.Placement.{Placement}
-use Rattle.layers.specs.Layering.{Parts, moved, shown, all_follow, part_follows, parts_follow, Near, Roomy, followed_by, part_exactly, exactly, Exact}
+use Rattle.layers.specs.Layering.{Parts, moved, placed, shown, all_follow, part_follows, parts_follow, Near, Roomy, followed_by, part_exactly, exactly, Exact}
 
 chosen : (b : Bool) (f t : Map) → is_some (cond b (Some f) None) ≡ true → unwrap_or (cond b (Some f) None) t ≡ f
 chosen true f t h = refl
@@ -21,16 +21,12 @@ all-exact t (p ∷ ps) h =
     let e = chosen (fits p.map && fits t && fits (followed p.map t)) (followed p.map t) p.map a in
     ap (λ (x : Map). record { leaf = p.leaf; map = x } ∷ map (moved t) ps) e ∙ ap (λ (l : List Placement). followed_by t p ∷ l) (all-exact t ps b)
 
-page_exact : (b : Bool) (t : Map) (ps : List Placement) → cond b (all_follow t ps) true ≡ true → cond b (map (moved t) ps) [] ≡ cond b (map (followed_by t) ps) []
-page_exact true t ps h = all-exact t ps h
-page_exact false t ps h = refl
-
 parts_exact : (m : Meaning) (xs : Parts) → parts_follow m xs ≡ true → shown m xs ≡ exactly m xs
 parts_exact m [] h = refl
 parts_exact m (x ∷ xs) h =
     let a = (and_parts (part_follows m x) (parts_follow m xs) h).0 in
     let b = (and_parts (part_follows m x) (parts_follow m xs) h).1 in
-    ap (λ (l : List Placement). l ++ shown m xs) (page_exact (has m x.page) x.map (m.page x.page) a)
+    ap (λ (l : List Placement). l ++ shown m xs) (all-exact x.map (placed m x.page) a)
     ∙ ap (λ (l : List Placement). part_exactly m x ++ l) (parts_exact m xs b)
 
 pub near_exact : (show : ℕ → Parts) (n : ℕ) (m : Meaning) → Roomy show n m → Near show n m → Exact show n m

@@ -20,7 +20,7 @@ use Rattle.layers.specs.Selecting.{selected, page_or_blank, select_shows}
 use Rattle.layers.specs.Turning.{turn_map}
 use Rattle.layers.specs.declared.extent.Extent.{Extent}
 use Rattle.layers.proofs.Selecting.{all-within, page_shown}
-use Rattle.layers.specs.Showing.{in_range}
+use Rattle.layers.proofs.Showing.{in_range}
 use Rattle.layers.proofs.Starting.{same_map, same_exact}
 
 -- ---- a page shown as it is
@@ -33,7 +33,7 @@ all_unmoved n (p ∷ ps) a =
     λ i. record { leaf = p.leaf; map = same_map p.map f i } ∷ all_unmoved n ps b i
 
 exactly_page : (m : Meaning) (t : Map) (p : ℕ) → 1 ≤ p → p ≤ m.pages → exactly m (record { page = p; map = t } ∷ []) ≡ map (followed_by t) (m.page p)
-exactly_page m t p a b = append-nil _ ∙ cond-true _ _ _ (in_range p m.pages a b)
+exactly_page m t p a b = append-nil _ ∙ ap (map (followed_by t)) (cond-true _ _ _ (in_range p m.pages a b))
 
 module _ (m : Meaning) (l : Lawful m) where
   as_it_is : (show : ℕ → Parts) (x : Extent) → ((p : ℕ) → 1 ≤ p → p ≤ m.pages → show p ≡ whole p ∷ []) → (p : ℕ) → 1 ≤ p → p ≤ m.pages → (layered show x m).page p ≡ m.page p

@@ -1,20 +1,24 @@
 -- Ranges, and the pages that they select.
-use Rattle.std.proofs.Common.{◌≡◌, ℕ, zero, suc, ◌+◌, ◌-◌, ◌<◌, ◌≤◌, Bool, true, false, cond, ◌&&◌, leb, ◌⊎◌, List, [], ◌∷◌, ◌++◌, length, get_or, take, drop, Some, None, Option, sym, refl, ap, ◌∙◌, inl, inr, append_assoc, add-one, arith, length-append, drop-cons}
-use Rattle.std.specs.List.{range_with_len}
+use Rattle.std.proofs.Common.{◌≡◌, ℕ, zero, suc, ◌+◌, ◌-◌, ◌<◌, ◌≤◌, Bool, true, false, cond, ◌&&◌, leb, ltb, ◌⊎◌, List, [], ◌∷◌, ◌++◌, length, get_or, drop, Some, None, Option, sym, refl, ap, ◌∙◌, inl, inr, ⊎_elim, append_assoc, add-one, arith, length-append, drop-cons}
+use Rattle.std.specs.List.{find, flat_map, range_with_len}
+use Rattle.std.specs.Bool.{then_some}
+use Rattle.std.specs.Option.{option_or}
+use Rattle.std.proofs.lemmas.List.Concat.{flat_map-append}
+use Rattle.std.proofs.lemmas.List.Folds.{find-append}
 use Rattle.std.proofs.lemmas.List.FromFn.{length-range_with_len, get_or-range_with_len}
 use Rattle.std.proofs.lemmas.List.{get_or_append_left, get_or-append_right, get_or_past}
 use Rattle.std.proofs.lemmas.Option.{slice_get_past}
-use Rattle.std.proofs.lemmas.Bool.{cond-true, cond-false, cond_both, le-leb, lt-leb, leb-true, and_left, and_right, and_from}
+use Rattle.std.proofs.lemmas.Bool.{cases_lt, cond-true, cond-false, cond_both, le-ltb, lt-ltb, le-leb, lt-leb, leb-true, ltb-false, and_left, and_right, and_from}
 use Rattle.pages.specs.Limits.{max_pages}
 use Rattle.pages.specs.Meaning.{Meaning, size_of}
 use Rattle.pages.specs.declared.faults.Refusal.TheVariants.{NoSuch, TooMany}
 use Rattle.layers.specs.Layering.{Below, all_below, whole}
 use Rattle.layers.specs.Orders.{objection}
-use Rattle.layers.specs.Selecting.{max_ranges, counting_down, pages_of, all_pages_of, selected, page_or_blank, select_shows, half_blank, missing, ranges_object, select_objects, SelectTaken}
+use Rattle.layers.specs.Selecting.{max_ranges, counting_down, pages_of, all_pages_of, selected, page_or_blank, unless_blank, select_shows, half_blank, missing, ranges_object, select_objects, SelectTaken}
 use Rattle.layers.specs.declared.extent.Extent.{Extent}
 use Rattle.layers.specs.declared.ranges.Range.{Range}
-use Rattle.layers.specs.Showing.{in_range}
-use Rattle.layers.specs.Slots.{drop-none}
+use Rattle.layers.proofs.Showing.{in_range}
+use Rattle.layers.proofs.Slots.{drop-none}
 
 length-counting_down : (a n : ℕ) → length (counting_down a n) ≡ n
 length-counting_down a zero = refl
@@ -47,6 +51,21 @@ module _ (r : Range) (h : r.last < r.first) where
   pub page_down : (i : ℕ) → i < length (pages_of r) → r.first - i ≡ get_or (pages_of r) i 0
   page_down i l = sym (ap (λ (xs : List ℕ). get_or xs i 0) downward ∙ get_d_counting_down r.first (r.first - r.last + 1) i (omega (arith, span_down)))
 
+-- ---- the first end that is missing
+
+-- the ends of ranges one after another
+abbrev ends : List Range → List ℕ
+ends rs = flat_map (λ (r : Range). r.first ∷ r.last ∷ []) rs
+
+missing_append : (rs qs : List Range) (n : ℕ) → missing (rs ++ qs) n ≡ option_or (missing rs n) (missing qs n)
+missing_append rs qs n = ap (find (ltb n)) (flat_map-append (λ (r : Range). r.first ∷ r.last ∷ []) rs qs) ∙ find-append (ltb n) (ends rs) (ends qs)
+
+pub missing_more : (rs qs : List Range) (n : ℕ) → missing rs n ≡ None → missing (rs ++ qs) n ≡ missing qs n
+missing_more rs qs n e = missing_append rs qs n ∙ ap (λ (o : Option ℕ). option_or o (missing qs n)) e
+
+pub missing_before : (rs qs : List Range) (n q : ℕ) → missing rs n ≡ Some q → missing (rs ++ qs) n ≡ Some q
+missing_before rs qs n q e = missing_append rs qs n ∙ ap (λ (o : Option ℕ). option_or o (missing qs n)) e
+
 -- ---- the ranges from the one at i on
 
 module _ (rs : List Range) (i : ℕ) where
@@ -70,8 +89,12 @@ module _ (rs : List Range) (i : ℕ) where
     pub page_on : (n p : ℕ) → n ≡ length (pages_of here) → n ≤ p → get_or (all_pages_of (drop i rs)) p 0 ≡ get_or (all_pages_of (drop (i + 1) rs)) (p - n) 0
     page_on n p f h = ap (λ (xs : List ℕ). get_or xs p 0) pages_are ∙ get_or-append_right (pages_of here) (all_pages_of (drop (i + 1) rs)) n p 0 (sym f) h
 
-    pub missing_is : (n : ℕ) → missing (drop i rs) n ≡ cond (leb here.first n) (cond (leb here.last n) (missing (drop (i + 1) rs) n) (Some here.last)) (Some here.first)
-    missing_is n = ap (λ (xs : List Range). missing xs n) rest_is
+    module _ (n : ℕ) where
+      pub missing_here : (e : ℕ) → missing (here ∷ []) n ≡ Some e → missing (drop i rs) n ≡ Some e
+      missing_here e h = ap (λ (xs : List Range). missing xs n) rest_is ∙ missing_before (here ∷ []) (drop (i + 1) rs) n e h
+
+      pub missing_on : missing (here ∷ []) n ≡ None → missing (drop i rs) n ≡ missing (drop (i + 1) rs) n
+      missing_on h = ap (λ (xs : List Range). missing xs n) rest_is ∙ missing_more (here ∷ []) (drop (i + 1) rs) n h
 
   pub over : length rs ≤ i → drop i rs ≡ []
   over h = drop-none rs i (slice_get_past rs i h)
@@ -88,25 +111,10 @@ total_added rs r =
     let b : length (pages_of r ++ []) ≡ length (pages_of r) + 0 = length-append (pages_of r) [] in
     omega arith
 
-none_missing : (a b : Bool) (x : Option ℕ) (p q : ℕ) → cond a (cond b x (Some p)) (Some q) ≡ None → (a ≡ true) × (b ≡ true) × (x ≡ None)
-none_missing true true x p q e = (refl, refl, e)
-none_missing true false x p q e = let o : ◌≡◌ {A = ℕ} 0 1 = cc in absurd (omega arith)
-none_missing false b x p q e = let o : ◌≡◌ {A = ℕ} 0 1 = cc in absurd (omega arith)
-
-kept : (a b : Bool) (x y z : Option ℕ) (p q : ℕ) → cond a (cond b x (Some p)) (Some q) ≡ z → (x ≡ z → y ≡ z) → cond a (cond b y (Some p)) (Some q) ≡ z
-kept true true x y z p q e k = k e
-kept true false x y z p q e k = e
-kept false b x y z p q e k = e
-
-pub missing_more : (rs qs : List Range) (n : ℕ) → missing rs n ≡ None → missing (rs ++ qs) n ≡ missing qs n
-missing_more [] qs n e = refl
-missing_more (r ∷ rs) qs n e =
-    let h = none_missing (leb r.first n) (leb r.last n) (missing rs n) r.last r.first e in
-    cond-true _ _ _ h.0 ∙ cond-true _ _ _ h.1 ∙ missing_more rs qs n h.2
-
-pub missing_before : (rs qs : List Range) (n q : ℕ) → missing rs n ≡ Some q → missing (rs ++ qs) n ≡ Some q
-missing_before [] qs n q e = let z : ◌≡◌ {A = ℕ} 0 1 = cc in absurd (omega arith)
-missing_before (r ∷ rs) qs n q e = kept (leb r.first n) (leb r.last n) (missing rs n) (missing (rs ++ qs) n) (Some q) r.last r.first e (missing_before rs qs n q)
+none_missing : (a b : Bool) (x : Option ℕ) (p q : ℕ) → cond a (Some p) (cond b (Some q) x) ≡ None → (a ≡ false) × (b ≡ false) × (x ≡ None)
+none_missing false false x p q e = (refl, refl, e)
+none_missing false true x p q e = let o : ◌≡◌ {A = ℕ} 0 1 = cc in absurd (omega arith)
+none_missing true b x p q e = let o : ◌≡◌ {A = ℕ} 0 1 = cc in absurd (omega arith)
 
 -- ---- what is selected
 
@@ -115,15 +123,26 @@ some_selected [] n h = absurd (omega arith)
 some_selected (r ∷ rs) n h = refl
 
 -- with no range, all pages
-pub all-selected : (k : ℕ) (rs : List Range) (n i : ℕ) → k ≤ 0 → get_or (selected (take k rs) n) i 0 ≡ get_or (range_with_len 1 n) i 0
-all-selected zero rs n i h = refl
-all-selected (suc k) rs n i h = absurd (omega arith)
+pub all-selected : (rs : List Range) (n i : ℕ) → length rs ≡ 0 → get_or (selected rs n) i 0 ≡ get_or (range_with_len 1 n) i 0
+all-selected [] n i h = refl
+all-selected (r ∷ rs) n i h = absurd (omega arith)
 
 pub all-within : (n i : ℕ) → i < n → get_or (range_with_len 1 n) i 0 ≡ i + 1
 all-within n i h = omega (arith, get_or-range_with_len 1 n i 0 h)
 
 pub all_past : (n i : ℕ) → n ≤ i → get_or (range_with_len 1 n) i 0 ≡ 0
 all_past n i h = get_or_past (range_with_len 1 n) i 0 (omega (arith, length-range_with_len 1 n))
+
+-- the number of a page is not that of a blank
+pub no_blank : (q : ℕ) → 1 ≤ q → unless_blank q ≡ Some q
+no_blank zero h = absurd (omega arith)
+no_blank (suc q) h = refl
+
+-- with no range, the page at an index, if there is one
+pub all_numbered : (rs : List Range) (n i : ℕ) → length rs ≡ 0 → then_some (ltb i n) (i + 1) ≡ unless_blank (get_or (selected rs n) i 0)
+all_numbered rs n i h = ⊎_elim (λ (l : i < n).
+    ap (λ (b : Bool). then_some b (i + 1)) (lt-ltb i n l) ∙ sym (no_blank (i + 1) (omega arith)) ∙ ap unless_blank (sym (all-selected rs n i h ∙ all-within n i l)))
+    (λ (l : n ≤ i). ap (λ (b : Bool). then_some b (i + 1)) (le-ltb i n l) ∙ ap unless_blank (sym (all-selected rs n i h ∙ all_past n i l))) (cases_lt i n)
 
 pub page_shown : (q : ℕ) → 1 ≤ q → page_or_blank q ≡ whole q ∷ []
 page_shown zero h = absurd (omega arith)
@@ -157,9 +176,9 @@ low_append n (x ∷ xs) ys a b (suc i) = low_append n xs ys (λ j. a (suc j)) b 
 low_all : (n : ℕ) (rs : List Range) → missing rs n ≡ None → Low n (all_pages_of rs)
 low_all n [] e = λ i. omega arith
 low_all n (r ∷ rs) e =
-    let h = none_missing (leb r.first n) (leb r.last n) (missing rs n) r.last r.first e in
-    let a = leb-true r.first n h.0 in
-    let b = leb-true r.last n h.1 in
+    let h = none_missing (ltb n r.first) (ltb n r.last) (missing rs n) r.first r.last e in
+    let a = ltb-false n r.first h.0 in
+    let b = ltb-false n r.last h.1 in
     low_append n (pages_of r) (all_pages_of rs)
     (cond_both (leb r.first r.last) _ _ (Low n)
     (λ t. let l = leb-true r.first r.last t in low_counting n r.first (r.last - r.first + 1) (omega arith))

@@ -9,7 +9,7 @@ use Rattle.pages.proofs.Composing.{maps_compose}
 use Rattle.pages.proofs.Scaling.{fit, composed_some}
 use Rattle.layers.specs.Layering.{Parts, whole, shown, part_shown, all_follow, parts_follow, Exact}
 use Rattle.layers.specs.declared.parts.Part.{Part}
-use Rattle.layers.specs.Showing.{part_few, in_range}
+use Rattle.layers.proofs.Showing.{part_few, in_range}
 use Rattle.layers.proofs.Exactly.{near_exact}
 
 -- ---- followed by the identity, a map in its bounds is itself
@@ -35,7 +35,7 @@ module _ (m : Meaning) (l : Lawful m) where
   same_near : (p : ℕ) → 1 ≤ p → p ≤ m.pages → parts_follow m (whole p ∷ []) ≡ true
   same_near p a b =
       ap (λ (v : Bool). v && true)
-      (ap (λ (v : Bool). cond v (all_follow identity (m.page p)) true) (in_range p m.pages a b) ∙ all_same m.leaves (m.page p) (l.placed p a b))
+      (ap (λ (b : Bool). all_follow identity (cond b (m.page p) [])) (in_range p m.pages a b) ∙ all_same m.leaves (m.page p) (l.placed p a b))
 
   -- each page below as it is
   pub same_exact : (show : ℕ → Parts) (n : ℕ) → n ≡ m.pages → ((p : ℕ) → 1 ≤ p → p ≤ m.pages → show p ≡ whole p ∷ []) → Exact show n m

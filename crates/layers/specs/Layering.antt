@@ -1,5 +1,6 @@
 -- What a layer means: each of its pages is made of parts, and each part shows a page below, followed by a map.
-use Rattle.std.specs.Prelude.{◌≡◌, ℕ, ◌+◌, ◌<◌, ◌≤◌, min, Bool, true, false, cond, ◌&&◌, ◌⊎◌, List, [], ◌∷◌, ◌++◌, map, length, take, is_some}
+use Rattle.std.specs.Prelude.{◌≡◌, ℕ, ◌+◌, ◌<◌, ◌≤◌, min, Bool, true, false, cond, ◌⊎◌, List, [], map, length, take, is_some}
+use Rattle.std.specs.List.{flat_map, list_all}
 use Rattle.std.specs.Option.{unwrap_or}
 use Rattle.pages.specs.Limits.{max_placements, max_depth}
 use Rattle.pages.specs.Maps.{identity, followed, composed}
@@ -34,13 +35,16 @@ deeper m = min (m.depth + 1) max_depth
 abbrev pub moved : Map → Placement → Placement
 moved t p = record { leaf = p.leaf; map = unwrap_or (composed p.map t) p.map }
 
+-- the placements of a page; of a page that there is not, none
+abbrev pub placed : Meaning → ℕ → List Placement
+placed m q = cond (has m q) (m.page q) []
+
 abbrev pub part_shown : Meaning → Part → List Placement
-part_shown m x = cond (has m x.page) (map (moved x.map) (m.page x.page)) []
+part_shown m x = map (moved x.map) (placed m x.page)
 
 -- the parts one after another
 abbrev pub shown : Meaning → Parts → List Placement
-shown m [] = []
-shown m (x ∷ xs) = part_shown m x ++ shown m xs
+shown m = flat_map (part_shown m)
 
 -- the meaning of a layer over m, where page p has the parts `show p`
 abbrev pub layered : (ℕ → Parts) → Extent → Meaning → Meaning
@@ -56,35 +60,39 @@ layered show x m = record {
 
 -- each placement keeps the bounds when it is followed by the map
 abbrev pub all_follow : Map → List Placement → Bool
-all_follow t [] = true
-all_follow t (p ∷ ps) = is_some (composed p.map t) && all_follow t ps
+all_follow t = list_all (λ p. is_some (composed p.map t))
 
 abbrev pub part_follows : Meaning → Part → Bool
-part_follows m x = cond (has m x.page) (all_follow x.map (m.page x.page)) true
+part_follows m x = all_follow x.map (placed m x.page)
 
 abbrev pub parts_follow : Meaning → Parts → Bool
-parts_follow m [] = true
-parts_follow m (x ∷ xs) = part_follows m x && parts_follow m xs
+parts_follow m = list_all (part_follows m)
+
+-- each page of n passes a test
+abbrev pub EachPage : ℕ → (ℕ → Type 0) → Type 0
+EachPage n Passes = (p : ℕ) → 1 ≤ p → p ≤ n → Passes p
+
+-- p is the first page of n that fails a test
+pub record FirstPage (n : ℕ) (Passes Fails : ℕ → Type 0) (p : ℕ) : Type 0 where
+  pub page : (1 ≤ p) × (p ≤ n)
+  pub fails : Fails p
+  pub before : (k : ℕ) → 1 ≤ k → k < p → Passes k
 
 -- no page of n has too many placements
 abbrev pub Roomy : (ℕ → Parts) → ℕ → Meaning → Type 0
-Roomy show n m = (p : ℕ) → 1 ≤ p → p ≤ n → length (shown m (show p)) ≤ max_placements
+Roomy show n m = EachPage n (λ p. length (shown m (show p)) ≤ max_placements)
 
 -- no map on a page of n leaves its bounds
 abbrev pub Near : (ℕ → Parts) → ℕ → Meaning → Type 0
-Near show n m = (p : ℕ) → 1 ≤ p → p ≤ n → parts_follow m (show p) ≡ true
+Near show n m = EachPage n (λ p. parts_follow m (show p) ≡ true)
 
 -- p is the first page with too many placements
-pub record FirstCrowded (show : ℕ → Parts) (n : ℕ) (m : Meaning) (p : ℕ) : Type 0 where
-  pub page : (1 ≤ p) × (p ≤ n)
-  pub crowded : max_placements < length (shown m (show p))
-  pub before : (k : ℕ) → 1 ≤ k → k < p → length (shown m (show k)) ≤ max_placements
+abbrev pub FirstCrowded : (ℕ → Parts) → ℕ → Meaning → ℕ → Type 0
+FirstCrowded show n m = FirstPage n (λ p. length (shown m (show p)) ≤ max_placements) (λ p. max_placements < length (shown m (show p)))
 
 -- p is the first page with a map that leaves its bounds
-pub record FirstFar (show : ℕ → Parts) (n : ℕ) (m : Meaning) (p : ℕ) : Type 0 where
-  pub page : (1 ≤ p) × (p ≤ n)
-  pub far : parts_follow m (show p) ≡ false
-  pub before : (k : ℕ) → 1 ≤ k → k < p → parts_follow m (show k) ≡ true
+abbrev pub FirstFar : (ℕ → Parts) → ℕ → Meaning → ℕ → Type 0
+FirstFar show n m = FirstPage n (λ p. parts_follow m (show p) ≡ true) (λ p. parts_follow m (show p) ≡ false)
 
 -- why pages cannot be laid so: CROWDED before TOO FAR, each over all pages and with the first page concerned
 abbrev pub Barred : (ℕ → Parts) → ℕ → Meaning → Fault → Type 0
@@ -97,11 +105,10 @@ abbrev pub followed_by : Map → Placement → Placement
 followed_by t p = record { leaf = p.leaf; map = followed p.map t }
 
 abbrev pub part_exactly : Meaning → Part → List Placement
-part_exactly m x = cond (has m x.page) (map (followed_by x.map) (m.page x.page)) []
+part_exactly m x = map (followed_by x.map) (placed m x.page)
 
 abbrev pub exactly : Meaning → Parts → List Placement
-exactly m [] = []
-exactly m (x ∷ xs) = part_exactly m x ++ exactly m xs
+exactly m = flat_map (part_exactly m)
 
 -- every page of n shows the placements of its parts, each followed by its part's map: nothing is cut and nothing left out
 pub record Exact (show : ℕ → Parts) (n : ℕ) (m : Meaning) : Type 0 where
@@ -111,8 +118,7 @@ pub record Exact (show : ℕ → Parts) (n : ℕ) (m : Meaning) : Type 0 where
 
 -- the parts name pages that there are below
 abbrev pub all_below : Meaning → Parts → Bool
-all_below m [] = true
-all_below m (x ∷ xs) = has m x.page && all_below m xs
+all_below m = list_all (λ x. has m x.page)
 
 abbrev pub Below : (ℕ → Parts) → ℕ → Meaning → Type 0
 Below show n m = (p : ℕ) → 1 ≤ p → p ≤ n → all_below m (show p) ≡ true

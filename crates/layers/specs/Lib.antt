@@ -6,5 +6,4 @@ pub mod Reducing
 pub mod Selecting
 pub mod Laws
 pub mod Worked
-pub mod Showing
-pub mod Slots
+pub mod Lawful

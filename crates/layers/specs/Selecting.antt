@@ -1,6 +1,6 @@
 -- The Select layer: ranges of pages, one after another.
-use Rattle.std.specs.Prelude.{◌≡◌, ℕ, zero, suc, ◌+◌, ◌-◌, Bool, cond, not, ◌&&◌, List, [], ◌∷◌, ◌++◌, length, Some, None, Option, ◌==◌, nat_le, slice_index}
-use Rattle.std.specs.List.{range_with_len}
+use Rattle.std.specs.Prelude.{◌≡◌, ℕ, zero, suc, ◌+◌, ◌-◌, Bool, cond, not, ◌&&◌, List, [], ◌∷◌, ◌++◌, length, Some, None, Option, ◌==◌, nat_le, nat_lt, slice_index}
+use Rattle.std.specs.List.{find, flat_map, range_with_len}
 use Rattle.pages.specs.Limits.{max_pages}
 use Rattle.pages.specs.Meaning.{Meaning, size_of}
 use Rattle.pages.specs.declared.faults.Refusal.TheVariants.{BadOrder, NoSuch, TooMany}
@@ -24,13 +24,17 @@ abbrev pub pages_of : Range → List ℕ
 pages_of r = cond (nat_le r.first r.last) (range_with_len r.first (r.last - r.first + 1)) (counting_down r.first (r.first - r.last + 1))
 
 abbrev pub all_pages_of : List Range → List ℕ
-all_pages_of [] = []
-all_pages_of (r ∷ rs) = pages_of r ++ all_pages_of rs
+all_pages_of = flat_map pages_of
 
 -- of n pages, those that are selected; with no range so far, all
 abbrev pub selected : List Range → ℕ → List ℕ
 selected [] n = range_with_len 1 n
 selected (r ∷ rs) n = all_pages_of (r ∷ rs)
+
+-- the page of a number; none of 0, a blank
+abbrev pub unless_blank : ℕ → Option ℕ
+unless_blank zero = None
+unless_blank (suc q) = Some (suc q)
 
 -- a page below, or a blank
 abbrev pub page_or_blank : ℕ → Parts
@@ -46,8 +50,7 @@ half_blank r = cond (r.first == 0) (not (r.last == 0)) (r.last == 0)
 
 -- the first end past n pages
 abbrev pub missing : List Range → ℕ → Option ℕ
-missing [] n = None
-missing (r ∷ rs) n = cond (nat_le r.first n) (cond (nat_le r.last n) (missing rs n) (Some r.last)) (Some r.first)
+missing rs n = find (λ e. nat_lt n e) (flat_map (λ r. r.first ∷ r.last ∷ []) rs)
 
 -- what is objected to ranges over n pages: an end that is not there, then too many ranges, or too many pages
 abbrev pub ranges_object : Option ℕ → ℕ → ℕ → Option Objection

@@ -1,6 +1,7 @@
 //! Pad: blanks are added at the end until a number divides the count of pages.
 
 ghost use Rattle.std.specs.Prelude.{◌≡◌, ◌≤◌};
+ghost use Rattle.std.specs.Option.{option_to_list};
 ghost use Rattle.layers.specs.Padding.{PadTaken, max_multiple, pad_count, pad_objects, pad_shows};
 ghost use Rattle.pages.specs.Limits.{max_pages};
 
@@ -10,7 +11,6 @@ use crate::parts::{Objection, Part};
 use crate::rules::{Plan, Rule};
 use pages::faults::Refusal;
 use pages::limits::MAX_PAGES;
-use pages::maps::Map;
 use pages::sources::Source;
 
 /// The greatest number that an order may name.
@@ -30,6 +30,17 @@ fn padded(pages: u32, multiple: u32) -> u32
     ensures { result ≡ pad_count multiple pages }
 {
     (pages + (multiple - 1)) / multiple * multiple
+}
+
+impl Blanks {
+    // The part of a page; none of a blank.
+    fn only_part<S: Source>(&self, below: &S, page: u32) -> Option<Part>
+        ensures { option_to_list result ≡ pad_shows (S.Source.meaning below.now) page }
+    {
+        (1..=below.pages())
+            .contains(&page)
+            .then_some(Part::whole(page))
+    }
 }
 
 impl Rule for Blanks {
@@ -66,20 +77,10 @@ impl Rule for Blanks {
     }
 
     fn count<S: Source>(&self, below: &S, page: u32) -> u32 {
-        if 1 <= page && page <= below.pages() {
-            1
-        } else {
-            0
-        }
+        u32::from(self.only_part(below, page).is_some())
     }
 
     fn part<S: Source>(&self, below: &S, page: u32, index: u32) -> Option<Part> {
-        if index > 0 || page < 1 || below.pages() < page {
-            return None;
-        }
-        Some(Part {
-            page,
-            map: Map::identity(),
-        })
+        self.only_part(below, page).filter(|_| index == 0)
     }
 }

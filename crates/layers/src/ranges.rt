@@ -1,10 +1,10 @@
 //! Ranges of pages.
 
-ghost use Rattle.std.specs.Prelude.{◌≡◌, ◌+◌, ◌<◌, ◌≤◌, length, slice_index};
-ghost use Rattle.layers.specs.Selecting.{all_pages_of, half_blank, missing, pages_of};
+ghost use Rattle.std.specs.Prelude.{◌≡◌, ◌+◌, ◌<◌, ◌≤◌, [], ◌∷◌, length, slice_index};
+ghost use Rattle.layers.specs.Selecting.{all_pages_of, half_blank, max_ranges, missing, pages_of, unless_blank};
 
 /// The pages from one to another, upward or downward; (0, 0) is one blank.
-#[derive(Clone, Copy)]
+#[derive(Clone, Copy, Default)]
 pub struct Range {
     pub first: u32,
     pub last: u32,
@@ -15,11 +15,14 @@ impl Range {
     pub(crate) fn half_blank(self) -> bool
         ensures { result ≡ half_blank self }
     {
-        if self.first == 0 {
-            self.last != 0
-        } else {
-            self.last == 0
-        }
+        (self.first == 0) != (self.last == 0)
+    }
+
+    // The first of its ends that is past so many pages.
+    fn missing(self, pages: u32) -> Option<u32>
+        ensures { result ≡ missing (self ∷ []) pages }
+    {
+        [self.first, self.last].into_iter().find(|end| *end > pages)
     }
 
     // How many pages the range has.
@@ -46,44 +49,43 @@ impl Range {
     }
 }
 
-// The page at an index of the ranges, one after another; 0 past the last.
-pub(crate) fn page_at(ranges: &[Range], index: u32) -> u32
-    ensures { result ≡ slice_index (all_pages_of ranges.now) index }
+// The page of a number that stands for a blank where it is 0.
+fn unless_blank(number: u32) -> Option<u32>
+    ensures { result ≡ unless_blank number }
+{
+    (number > 0).then_some(number)
+}
+
+// The page at an index of the ranges, one after another; none at a blank, and past the last.
+pub(crate) fn page_at(ranges: &[Range], index: u32) -> Option<u32>
+    ensures { result ≡ unless_blank (slice_index (all_pages_of ranges.now) index) }
 {
     let mut rest = index as u64;
-    for r in ranges {
-        let n = r.span();
-        if rest < n {
-            return r.page(rest);
+    for range in ranges {
+        let span = range.span();
+        if rest < span {
+            return unless_blank(range.page(rest));
         }
-        rest -= n;
+        rest -= span;
     }
-    0
+    None
 }
 
 // How many pages the ranges have.
 pub(crate) fn total(ranges: &[Range]) -> u64
-    requires { length ranges.now ≤ 64 }
-    ensures all { result ≡ length (all_pages_of ranges.now) }
-    ensures few { result ≤ 274877906944 }
+    requires { length ranges.now ≤ max_ranges }
+    ensures { result ≡ length (all_pages_of ranges.now) }
 {
-    let mut sum = 0;
-    for r in ranges {
-        sum += r.span();
-    }
-    sum
+    ranges.iter().map(|range| range.span()).sum()
 }
 
 // The first end past so many pages.
 pub(crate) fn first_missing(ranges: &[Range], pages: u32) -> Option<u32>
     ensures { result ≡ missing ranges.now pages }
 {
-    for r in ranges {
-        if r.first > pages {
-            return Some(r.first);
-        }
-        if r.last > pages {
-            return Some(r.last);
+    for range in ranges {
+        if let Some(end) = range.missing(pages) {
+            return Some(end);
         }
     }
     None

@@ -1,28 +1,26 @@
 //! Select: ranges of pages, one after another.
 
-ghost use Rattle.std.specs.Prelude.{◌≡◌, ◌+◌, ◌-◌, ◌<◌, ◌≤◌, length, take, slice_index};
-ghost use Rattle.layers.specs.Selecting.{SelectStarts, SelectTaken, max_ranges, select_objects, select_shows, selected};
+ghost use Rattle.std.specs.Prelude.{◌≡◌, ◌-◌, ◌<◌, ◌≤◌, [], ◌∷◌, ◌++◌, MatchOption, length, slice_index};
+ghost use Rattle.std.specs.Option.{option_to_list};
+ghost use Rattle.layers.specs.Selecting.{SelectStarts, SelectTaken, max_ranges, select_objects, select_shows, selected, unless_blank};
 
 use crate::extent::Extent;
 use crate::layer::Layer;
 use crate::parts::{Objection, Part};
 use crate::ranges::{Range, first_missing, page_at, total};
 use crate::rules::{Plan, Rule};
+use arrayvec::ArrayVec;
 use pages::faults::Refusal;
 use pages::limits::MAX_PAGES;
-use pages::maps::Map;
 use pages::sources::Source;
 
 /// How many ranges a layer may have.
 pub const MAX_RANGES: usize = 64;
 
 /// Ranges of pages, one after another; with no range, all pages.
-#[derive(Clone, Copy)]
+#[derive(Clone, Drop)]
 pub struct Ranges {
-    given: [Range; MAX_RANGES],
-    count: usize,
-    ghost most: { count ≤ max_ranges },
-    ghost long: { length given ≡ max_ranges },
+    given: ArrayVec<Range, MAX_RANGES>,
 }
 
 /// A layer that selects pages. An order adds a range, the first in place of all pages, with which the layer starts.
@@ -31,41 +29,56 @@ pub type Select<S> = Layer<S, Ranges>;
 impl Ranges {
     /// The ranges so far.
     pub fn ranges(&self) -> &[Range]
-        ensures { result.now ≡ take self.now.count self.now.given }
+        ensures all { result.now ≡ self.now.given.items }
+        ensures few { length result.now ≤ max_ranges }
     {
-        &self.given[0..self.count]
+        self.given.as_slice()
     }
 
-    // Of so many pages, the one that page `page` shows; 0 is a blank.
-    fn shown(&self, pages: u32, page: u32) -> u32
-        ensures { result ≡ slice_index (selected (take self.now.count self.now.given) pages) (page - 1) }
+    // The ranges so far, and one more, if there is room for it.
+    fn added(&self, range: Range) -> Option<Ranges>
+        ensures { MatchOption result (max_ranges ≤ length self.now.given.items) (λ r. (length self.now.given.items < max_ranges) × (r.given.items ≡ self.now.given.items ++ range ∷ [])) }
+    {
+        let mut given = ArrayVec::try_from(self.ranges()).ok()?;
+        given.try_push(range).ok()?;
+        Some(Ranges { given })
+    }
+
+    // Of so many pages, the one that page `page` shows; none where that is a blank.
+    fn shown(&self, pages: u32, page: u32) -> Option<u32>
+        ensures { result ≡ unless_blank (slice_index (selected self.now.given.items pages) (page - 1)) }
     {
         let index = page.saturating_sub(1);
-        if self.count > 0 {
-            return page_at(self.ranges(), index);
+        if self.given.is_empty() {
+            return (index < pages).then_some(index + 1);
         }
-        if index < pages { index + 1 } else { 0 }
+        page_at(self.ranges(), index)
+    }
+
+    // The part of a page; none of a blank.
+    fn only_part<S: Source>(&self, below: &S, page: u32) -> Option<Part>
+        ensures { option_to_list result ≡ select_shows self.now.given.items (S.Source.meaning below.now) page }
+    {
+        self.shown(below.pages(), page).map(Part::whole)
     }
 }
 
 impl Rule for Ranges {
     type Order = Range;
 
-    ghost shows = { λ r. select_shows (take r.count r.given) };
+    ghost shows = { λ r. select_shows r.given.items };
 
-    ghost starts = { λ m r x. SelectStarts m (take r.count r.given) x };
+    ghost starts = { λ m r x. SelectStarts m r.given.items x };
 
-    ghost objects = { λ r o m. select_objects (take r.count r.given) o m };
+    ghost objects = { λ r o m. select_objects r.given.items o m };
 
-    ghost takes = { λ r o m s x. SelectTaken (take r.count r.given) o m (take s.count s.given) x };
+    ghost takes = { λ r o m s x. SelectTaken r.given.items o m s.given.items x };
 
     fn start<S: Source>(below: &S) -> Plan<Ranges> {
-        let rule = Ranges {
-            given: [Range { first: 0, last: 0 }; MAX_RANGES],
-            count: 0,
-        };
         Plan {
-            rule,
+            rule: Ranges {
+                given: ArrayVec::new(),
+            },
             extent: Extent::of(below),
         }
     }
@@ -81,16 +94,13 @@ impl Rule for Ranges {
         if let Some(page) = first_missing(&[order], pages) {
             return Err(Objection::new(Refusal::NoSuch, page));
         }
-        let pages = total(self.ranges()) + order.span();
-        if self.count >= MAX_RANGES || pages > MAX_PAGES as u64 {
+        let pages = total(self.ranges()).saturating_add(order.span());
+        if pages > MAX_PAGES as u64 {
             return Err(Objection::new(Refusal::TooMany, 0));
         }
-        let mut given = self.given;
-        given[self.count] = order;
-        let rule = Ranges {
-            given,
-            count: self.count + 1,
-        };
+        let rule = self
+            .added(order)
+            .ok_or(Objection::new(Refusal::TooMany, 0))?;
         Ok(Plan {
             rule,
             extent: Extent {
@@ -101,21 +111,10 @@ impl Rule for Ranges {
     }
 
     fn count<S: Source>(&self, below: &S, page: u32) -> u32 {
-        if self.shown(below.pages(), page) == 0 {
-            0
-        } else {
-            1
-        }
+        u32::from(self.only_part(below, page).is_some())
     }
 
     fn part<S: Source>(&self, below: &S, page: u32, index: u32) -> Option<Part> {
-        let from = self.shown(below.pages(), page);
-        if index > 0 || from == 0 {
-            return None;
-        }
-        Some(Part {
-            page: from,
-            map: Map::identity(),
-        })
+        self.only_part(below, page).filter(|_| index == 0)
     }
 }

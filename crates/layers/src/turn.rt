@@ -92,10 +92,7 @@ impl Rule for Quarters {
     }
 
     fn part<S: Source>(&self, below: &S, page: u32, index: u32) -> Option<Part> {
-        if index > 0 {
-            return None;
-        }
-        Some(Part {
+        (index == 0).then_some(Part {
             page,
             map: turn_map(self.turn, below.size()),
         })

@@ -1,22 +1,21 @@
 //! The rule of a layer whose kind follows from its orders.
-ghost use Rattle.pile.specs.Choices.{ChoiceStarts, ChoiceTakes, choice_objects, choice_shows, given_by, ranges_of};
-ghost use Rattle.pile.specs.declared.choice.Choice.{Choice as Some-choice};
+ghost use Rattle.layers.specs.declared.extent.Extent.{Extent};
+ghost use Rattle.pile.specs.Choices.{ChoiceStarts, ChoiceTakes, choice_objects, choice_shows};
 ghost use Rattle.std.specs.Prelude.{◌≡◌, Some, None, MatchResult};
 
 use crate::orders::Order;
 use layers::pad::Blanks;
 use layers::parts::{Objection, Part};
-use layers::ranges::Range;
 use layers::reduce::Ratio;
 use layers::rules::{Plan, Rule};
 use layers::select::Ranges;
 use layers::turn::Quarters;
 use pages::sources::Source;
-use signature::imposition::{Imposition, Scheme};
+use signature::imposition::Imposition;
 
 /// A rule of any kind. A layer starts as one that selects all pages; an order of another kind makes it a layer of that
 /// kind, as if newly put on.
-#[derive(Clone, Copy)]
+#[derive(Clone, Drop)]
 pub enum Choice {
     Selecting(Ranges),
     Padding(Blanks),
@@ -25,107 +24,38 @@ pub enum Choice {
     Imposing(Imposition),
 }
 
-// The ranges so far; none where the layer is of another kind.
-fn ranges_so_far<S: Source>(choice: &Choice, below: &S) -> Ranges
-    ensures { given_by result ≡ ranges_of choice.now }
+// What an order makes of a rule of one kind.
+fn ordered_by<S: Source, R: Rule, F: FnOnce(R) -> Choice>(
+    rule: &R,
+    below: &S,
+    order: R::Order,
+    kind: F,
+) -> Result<Plan<Choice>, Objection>
+    requires { F.IsAlwaysCallable kind }
+    ensures { let m = S.Source.meaning below.now in MatchResult result
+        (λ p. (R.Rule.objects rule.now order m ≡ None) × ((r : R) × F.post kind r p.rule × R.Rule.takes rule.now order m r p.extent))
+        (λ o. R.Rule.objects rule.now order m ≡ Some o) }
 {
-    match choice {
-        Choice::Selecting(ranges) => *ranges,
-        _ => {
-            let Plan { rule, extent } = <Ranges as Rule>::start(below);
-            rule
-        }
-    }
+    let Plan { rule, extent } = rule.ordered(below, order)?;
+    Ok(Plan {
+        rule: kind(rule),
+        extent,
+    })
 }
 
-fn select<S: Source>(choice: &Choice, below: &S, order: Range) -> Result<Plan<Choice>, Objection>
-    ensures { MatchResult result
-        (λ p. (choice_objects choice.now (Order.Select order) (S.Source.meaning below.now) ≡ None) × ChoiceTakes choice.now (Order.Select order) (S.Source.meaning below.now) p.rule p.extent)
-        (λ o. choice_objects choice.now (Order.Select order) (S.Source.meaning below.now) ≡ Some o) }
+// What an order makes of a layer of one kind that is newly put on.
+fn ordered_newly<S: Source, R: Rule + Drop, F: FnOnce(R) -> Choice>(
+    below: &S,
+    order: R::Order,
+    kind: F,
+) -> Result<Plan<Choice>, Objection>
+    requires { F.IsAlwaysCallable kind }
+    ensures { let m = S.Source.meaning below.now in (s : R) × (x : Extent) × R.Rule.starts m s x × MatchResult result
+        (λ p. (R.Rule.objects s order m ≡ None) × ((r : R) × F.post kind r p.rule × R.Rule.takes s order m r p.extent))
+        (λ o. R.Rule.objects s order m ≡ Some o) }
 {
-    let rule = ranges_so_far(choice, below);
-    match rule.ordered(below, order) {
-        Ok(plan) => {
-            let Plan { rule, extent } = plan;
-            Ok(Plan {
-                rule: Choice::Selecting(rule),
-                extent,
-            })
-        }
-        Err(objection) => Err(objection),
-    }
-}
-
-fn pad<S: Source>(below: &S, order: u32) -> Result<Plan<Choice>, Objection>
-    ensures { (c : Some-choice) → MatchResult result
-        (λ p. (choice_objects c (Order.Pad order) (S.Source.meaning below.now) ≡ None) × ChoiceTakes c (Order.Pad order) (S.Source.meaning below.now) p.rule p.extent)
-        (λ o. choice_objects c (Order.Pad order) (S.Source.meaning below.now) ≡ Some o) }
-{
-    let Plan { rule, extent } = <Blanks as Rule>::start(below);
-    match rule.ordered(below, order) {
-        Ok(plan) => {
-            let Plan { rule, extent } = plan;
-            Ok(Plan {
-                rule: Choice::Padding(rule),
-                extent,
-            })
-        }
-        Err(objection) => Err(objection),
-    }
-}
-
-fn turn<S: Source>(below: &S, order: u32) -> Result<Plan<Choice>, Objection>
-    ensures { (c : Some-choice) → MatchResult result
-        (λ p. (choice_objects c (Order.Turn order) (S.Source.meaning below.now) ≡ None) × ChoiceTakes c (Order.Turn order) (S.Source.meaning below.now) p.rule p.extent)
-        (λ o. choice_objects c (Order.Turn order) (S.Source.meaning below.now) ≡ Some o) }
-{
-    let Plan { rule, extent } = <Quarters as Rule>::start(below);
-    match rule.ordered(below, order) {
-        Ok(plan) => {
-            let Plan { rule, extent } = plan;
-            Ok(Plan {
-                rule: Choice::Turning(rule),
-                extent,
-            })
-        }
-        Err(objection) => Err(objection),
-    }
-}
-
-fn reduce<S: Source>(below: &S, order: Ratio) -> Result<Plan<Choice>, Objection>
-    ensures { (c : Some-choice) → MatchResult result
-        (λ p. (choice_objects c (Order.Reduce order) (S.Source.meaning below.now) ≡ None) × ChoiceTakes c (Order.Reduce order) (S.Source.meaning below.now) p.rule p.extent)
-        (λ o. choice_objects c (Order.Reduce order) (S.Source.meaning below.now) ≡ Some o) }
-{
-    let Plan { rule, extent } = <Ratio as Rule>::start(below);
-    match rule.ordered(below, order) {
-        Ok(plan) => {
-            let Plan { rule, extent } = plan;
-            Ok(Plan {
-                rule: Choice::Reducing(rule),
-                extent,
-            })
-        }
-        Err(objection) => Err(objection),
-    }
-}
-
-fn impose<S: Source>(below: &S, order: Scheme) -> Result<Plan<Choice>, Objection>
-    ensures { (c : Some-choice) → MatchResult result
-        (λ p. (choice_objects c (Order.Impose order) (S.Source.meaning below.now) ≡ None) × ChoiceTakes c (Order.Impose order) (S.Source.meaning below.now) p.rule p.extent)
-        (λ o. choice_objects c (Order.Impose order) (S.Source.meaning below.now) ≡ Some o) }
-{
-    let Plan { rule, extent } = <Imposition as Rule>::start(below);
-    match rule.ordered(below, order) {
-        Ok(plan) => {
-            let Plan { rule, extent } = plan;
-            Ok(Plan {
-                rule: Choice::Imposing(rule),
-                extent,
-            })
-        }
-        Err(objection) => Err(objection),
-    }
+    let Plan { rule, extent } = R::start(below);
+    ordered_by(&rule, below, order, kind)
 }
 
 impl Rule for Choice {
@@ -149,11 +79,14 @@ impl Rule for Choice {
 
     fn ordered<S: Source>(&self, below: &S, order: Order) -> Result<Plan<Choice>, Objection> {
         match order {
-            Order::Select(range) => select(self, below, range),
-            Order::Pad(multiple) => pad(below, multiple),
-            Order::Turn(quarters) => turn(below, quarters),
-            Order::Reduce(ratio) => reduce(below, ratio),
-            Order::Impose(scheme) => impose(below, scheme),
+            Order::Select(range) => match self {
+                Choice::Selecting(ranges) => ordered_by(ranges, below, range, Choice::Selecting),
+                _ => ordered_newly(below, range, Choice::Selecting),
+            },
+            Order::Pad(multiple) => ordered_newly(below, multiple, Choice::Padding),
+            Order::Turn(quarters) => ordered_newly(below, quarters, Choice::Turning),
+            Order::Reduce(ratio) => ordered_newly(below, ratio, Choice::Reducing),
+            Order::Impose(scheme) => ordered_newly(below, scheme, Choice::Imposing),
         }
     }
 

@@ -9,7 +9,7 @@ use Rattle.pages.specs.Meaning.{Lawful, Meaning, size_of}
 use Rattle.pages.specs.declared.maps.Size.{Size}
 use Rattle.layers.specs.Layering.{layered}
 use Rattle.layers.specs.declared.extent.Extent.{Extent}
-use Rattle.layers.specs.Showing.{lawful_layered}
+use Rattle.layers.specs.Lawful.{lawful_layered}
 use Rattle.signature.specs.Imposing.{side_parts, side_size, sides_of}
 use Rattle.sides.specs.Laws.{Accepted}
 use Rattle.sides.specs.Texts.{blocks_of, ending_text, head_text, line, page_line, showpage, side_text}

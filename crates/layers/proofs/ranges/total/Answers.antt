@@ -1,18 +1,13 @@
-use Rattle.std.proofs.Common.{List, length, ap, arith}
-use Rattle.layers.specs.Selecting.{all_pages_of}
-use Rattle.layers.specs.declared.ranges.Range.{Range}
-use Rattle.layers.proofs.Selecting.{total_more, over}
+use Rattle.std.proofs.Common.{rules, tests, length, sym, ◌∙◌}
+use Rattle.std.proofs.lemmas.Iterator.{YieldsList-from_map, YieldsList-from_slice}
+use Rattle.std.proofs.lemmas.Iterator.Consumers.{sum_by_from_yields_List}
+use Rattle.std.proofs.lemmas.List.Concat.{length-flat_map}
+use Rattle.layers.specs.Selecting.{pages_of}
 use Rattle.layers.proofs.ranges.total.Goals as goal
-
-pub loop-r-preserved : goal.loop-r-preserved
-loop-r-preserved c =
-    let e = total_more c.args.ranges.now c.loop-r.r-index c.loop-r-test.true in
-    let f = c.span-sum.ensures.all in
-    let i = c.loop-r.invariant.0 in
-    (omega arith, omega arith)
 
 pub returns : goal.returns
 returns c =
-    let e = ap (λ (rs : List Range). length (all_pages_of rs)) (over c.args.ranges.now c.loop-r.r-index c.loop-r-test.false) in
-    let i = c.loop-r.invariant.0 in
-    record { all = omega arith; few = omega arith }
+    let rs = c.args.ranges.now in
+    sum_by_from_yields_List (λ r. length (pages_of r)) rs c.map.result c.sum.result c.sum.ensures.ran
+    (YieldsList-from_map {s = c.map.result} _ (λ r. length (pages_of r)) (YieldsList-from_slice rs (search rules)) c.map.ensures.closure (λ x r q k. search (rules, tests)))
+    ∙ sym (length-flat_map pages_of rs)

@@ -3,7 +3,7 @@ use Rattle.std.specs.Option.{ok_or}
 use Rattle.pages.specs.Meaning.{Meaning, fault}
 use Rattle.pages.specs.declared.faults.Fault.{Fault}
 use Rattle.pages.specs.declared.faults.Refusal.TheVariants.{NoSuch}
-use Rattle.layers.specs.Showing.{place_layered, refused_layered}
+use Rattle.layers.proofs.Showing.{place_layered, refused_layered}
 use Rattle.layers.proofs.layer.LayerSource.place.Goals as goal
 
 pub returns-then-slot-gt-MAX_PLACEMENTS : goal.returns-then-slot-gt-MAX_PLACEMENTS
@@ -18,5 +18,5 @@ returns g c =
     let s = c.args.self.now in
     let m : Meaning = g.S.Source.meaning s.below in
     c.ok_or.ensures.value
-    ∙ ap (λ (f : Fault). ok_or c.page_place.result f) (c.new-refused.ensures ∙ ap (λ (d : ℕ). fault NoSuch d c.args.page) c.depth.ensures)
-    ∙ place_layered (g.R.Rule.shows s.rule m) s.extent m c.args.page c.if-page-lt1.false c.if-self-page.false c.args.slot c.page_place.result c.if-slot-gt-MAX_PLACEMENTS.false c.page_place.ensures
+    ∙ ap (λ (f : Fault). ok_or c.place.result f) (c.new-refused.ensures ∙ ap (λ (d : ℕ). fault NoSuch d c.args.page) c.depth.ensures)
+    ∙ place_layered (g.R.Rule.shows s.rule m) s.extent m c.args.page c.if-page-lt1.false c.if-self-page.false c.args.slot c.place.result c.if-slot-gt-MAX_PLACEMENTS.false c.place.ensures

@@ -2,7 +2,7 @@ use Rattle.std.proofs.Common.{rules}
 use Rattle.std.proofs.lemmas.Bool.{cond-true}
 use Rattle.pages.specs.Meaning.{Meaning}
 use Rattle.layers.specs.Padding.{pad_shows}
-use Rattle.layers.specs.Showing.{in_range}
+use Rattle.layers.proofs.Showing.{in_range}
 use Rattle.layers.proofs.Starting.{same_exact}
 use Rattle.layers.proofs.pad.BlanksRule.start.Goals as goal
 
