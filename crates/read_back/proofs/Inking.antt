@@ -1,8 +1,10 @@
 -- What is printed has the form of an ink.
-use Rattle.std.proofs.Common.{◌≡◌, ℕ, zero, suc, ◌+◌, ◌-◌, ◌*◌, ◌%◌, ◌^◌, ◌<◌, ◌≤◌, Bool, true, false, not, ◌&&◌, ◌||◌, eqb, List, [], ◌∷◌, ◌++◌, length, take, ℤ, pos, negsuc, codes, decimal, sym, refl, ap, subst, arith}
+use Rattle.std.proofs.Common.{◌≡◌, ℕ, zero, suc, ◌+◌, ◌-◌, ◌*◌, ◌%◌, ◌^◌, ◌<◌, ◌≤◌, Bool, true, false, not, ◌&&◌, ◌||◌, eqb, List, [], ◌∷◌, ◌++◌, length, take, ℤ, pos, negsuc, codes, decimal, sym, refl, ap, ◌∙◌, subst, arith}
+use Rattle.std.specs.List.{list_all}
 use Rattle.std.specs.Fmt.{signed_decimal}
 use Rattle.std.specs.Str.{bytes_eq}
 use Rattle.std.proofs.lemmas.Fmt.{decimal_by_steps}
+use Rattle.std.proofs.lemmas.List.Folds.{list_all-append}
 use Rattle.std.proofs.lemmas.Bool.{and_parts, and_from, cond_both, cond-true, leb-true, not-true}
 use Rattle.std.proofs.lemmas.Bool.Decides.{nat_tests}
 use Rattle.pages.specs.Inks.{Ink, lines, unbroken, forbidden, uncarried, shorter, last_byte}
@@ -19,12 +21,10 @@ abbrev clean_byte : ℕ → Bool
 clean_byte b = not (eqb b 10) && not (eqb b 37)
 
 abbrev pub clean : List ℕ → Bool
-clean [] = true
-clean (b ∷ bs) = clean_byte b && clean bs
+clean bs = list_all clean_byte bs
 
 clean-append : (a b : List ℕ) → clean a ≡ true → clean b ≡ true → clean (a ++ b) ≡ true
-clean-append [] b h k = k
-clean-append (x ∷ a) b h k = let p = and_parts _ _ h in and_from _ _ p.0 (clean-append a b p.1 k)
+clean-append a b h k = list_all-append clean_byte a b ∙ and_from _ _ h k
 
 clean-take : (n : ℕ) (a : List ℕ) → clean a ≡ true → clean (take n a) ≡ true
 clean-take zero a h = refl

@@ -3,7 +3,7 @@ use Rattle.std.proofs.Common.{◌≡◌, ℕ, ◌+◌, ◌-◌, ◌≤◌, List,
 use Rattle.std.specs.List.{slice_range}
 use Rattle.std.proofs.lemmas.List.{take-append-drop, take-append-le, take-take, take_at, drop_at, length-take-le, drop-append-le}
 use Rattle.pages.specs.Splice.{splice}
-use Rattle.text.proofs.Splices.{splice_none}
+use Rattle.text.specs.Splicing.{splice_none}
 
 -- a write into a front of the buffer is one into the buffer
 splice_within : {X : Type 0} (b : List X) (e at : ℕ) (xs : List X) → at + length xs ≤ e → e ≤ length b → splice (take e b) at xs ++ drop e b ≡ splice b at xs

@@ -8,7 +8,7 @@ use Rattle.pages.specs.Meaning.{Meaning, fault, end_at, written, pour_at, poured
 use Rattle.pages.specs.Splice.{splice}
 use Rattle.pages.specs.declared.faults.Fault.{Fault}
 use Rattle.pages.specs.declared.faults.Refusal.TheVariants.{ShortBuffer, NoSuch}
-use Rattle.text.proofs.Splices.{splice_none}
+use Rattle.text.specs.Splicing.{splice_none}
 use Rattle.plan.specs.declared.record.Record.{Record}
 use Rattle.job.specs.Calls.{pullable, pulled}
 use Rattle.runs.specs.Editions.{Edition, Prints, Writes, depth_of, print_refusal, pull_back, state}
