@@ -25,17 +25,14 @@ fn examine(file: &[u8]) -> Result<(), Fault>
 {
     let mut place = Place::TOP;
     for (i, b) in file.iter().enumerate() {
-        match place.next(*b) {
-            Ok(next) => place = next,
-            Err(kind) => {
-                return Err(Fault {
-                    kind,
-                    layer: 1,
-                    page: place.page,
-                    offset: i as u32,
-                });
-            }
-        }
+        let offset = i as u32;
+        let page = place.page;
+        place = place.next(*b).map_err(|kind| Fault {
+            kind,
+            layer: 1,
+            page,
+            offset,
+        })?;
     }
     Ok(())
 }

@@ -5,6 +5,12 @@ use crate::parts::Parts;
 use crate::places::LINE_FEED;
 use text::{Counter, Piece, Sink, put_pieces};
 
+/// How high the first line of a page stands, in points.
+const FIRST_BASELINE: u64 = 748;
+
+/// How much lower each line stands than the one before it.
+const LINE_SPACING: u64 = 11;
+
 const FONT: &[u8] = b"/Courier findfont 6 scalefont setfont\n";
 
 /// Whether a byte has a meaning in a PostScript string.
@@ -39,7 +45,7 @@ fn put_escaped<O: Sink>(out: &mut O, line: &[u8]) -> Option<()>
 fn baseline(i: usize) -> u64
     ensures { result ≡ baseline i }
 {
-    748u64.saturating_sub((i as u64).saturating_mul(11))
+    FIRST_BASELINE.saturating_sub((i as u64).saturating_mul(LINE_SPACING))
 }
 
 fn put_line<O: Sink>(out: &mut O, i: usize, line: &[u8]) -> Option<()>
