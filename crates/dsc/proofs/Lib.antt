@@ -1,5 +1,6 @@
 pub mod Spans
 pub mod Keywords
+pub mod Labels
 pub mod FirstLine
 pub mod Turns
 pub mod Pairs
@@ -10,6 +11,7 @@ pub mod Accepted
 pub mod Rebuilt
 pub mod Ranges
 pub mod Indexed
+pub mod Rooms
 pub mod Placed
 pub mod Joined
 pub mod Words

@@ -135,8 +135,3 @@ meant_by (Err f) = blank
 -- a file that is refused means what a reader not loaded means
 abbrev pub meant : List ℕ → Read
 meant file = meant_by (scanned file)
-
--- the checks before the first line
-abbrev pub Opens : List ℕ → Result (Unit {0}) Fault → Type 0
-Opens file (Ok u) = (length file ≤ longest) × (scanned file ≡ run start 0 [] (lines_of file))
-Opens file (Err f) = scanned file ≡ Err f

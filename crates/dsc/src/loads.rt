@@ -8,8 +8,8 @@ ghost use Rattle.dsc.specs.Loads.{Loaded, Labels, Inks};
 use crate::comments::{Comment, kind_of};
 use crate::lines::text;
 use crate::reader::Dsc;
-use crate::reading::Reading;
-use crate::readings::{LETTER, opens};
+use crate::reading::Opened;
+use crate::readings::LETTER;
 use crate::scanner::{Scanner, Span};
 use pages::faults::{Fault, Refusal};
 
@@ -28,24 +28,21 @@ fn holds(index: &[u32], k: usize, ink: Span) -> bool
     length == ink.length
 }
 
-// Reads the file as scan does, and compares the index with what scan would write.
-fn verify(file: &[u8], index: &[u32]) -> Result<Scanner, Fault>
-    ensures { Verified file.now index.now result }
-{
-    opens(file)?;
-    let mut reading = Reading::new(file);
-    let mut k: usize = 0;
-    let mut same = true;
-    while !reading.over {
-        if let Some(ink) = reading.advance()? {
-            same = same & holds(index, k, ink);
-            k += 2;
+impl<'a> Opened<'a> {
+    // Reads the file as scan does, and compares the index with what scan would write.
+    fn verify(&self, index: &[u32]) -> Result<Scanner, Fault>
+        ensures { Verified self.now.file.now index.now result }
+    {
+        let mut reading = self.inks();
+        let mut same = true;
+        for (leaf, ink) in reading.by_ref().enumerate() {
+            same &= holds(index, 2 * leaf, ink?);
         }
+        if !same {
+            return Err(Fault::new(Refusal::WrongIndex, 1, 0));
+        }
+        Ok(reading.scanner)
     }
-    if !same {
-        return Err(Fault::new(Refusal::WrongIndex, 1, 0));
-    }
-    Ok(reading.scanner)
 }
 
 impl<'a> Dsc<'a> {
@@ -67,7 +64,7 @@ impl<'a> Dsc<'a> {
         ensures answer { result ≡ load_answer (scanned file.now) index.now }
         ensures after { Loaded result file.now index.now self.old self.new }
     {
-        let found = verify(file, index)?;
+        let found = Opened::new(file)?.verify(index)?;
         self.file = file;
         self.index = index;
         self.leaves = found.begun;
@@ -88,7 +85,7 @@ impl<'a> Dsc<'a> {
         let a = index[i - 2] as usize + index[i - 1] as usize;
         let b = index[i] as usize;
         match kind_of(text(&file[a..b])) {
-            Comment::Page { label, ordinal: _ } => Ok(label),
+            Comment::Page(Some(page)) => Ok(page.label),
             _ => unreachable(),
         }
     }

@@ -45,7 +45,7 @@ pub enum Turn {
 }
 
 impl Scanner {
-    fn refusal(&self, kind: Refusal, at: u32) -> Fault
+    pub(crate) fn refusal(&self, kind: Refusal, at: u32) -> Fault
         ensures { result ≡ at_line kind self.now at }
     {
         Fault {
@@ -82,37 +82,25 @@ impl Scanner {
                 self.from = next;
                 Ok(Turn::On)
             }
-            (Part::Head(_, _), Comment::EndComments | Comment::Trailer | Comment::Page { .. }) => {
+            (Part::Head(_, _), Comment::EndComments | Comment::Trailer | Comment::Page(_)) => {
                 Err(self.refusal(Refusal::OutOfOrder, at))
             }
-            (Part::Head(None, size), Comment::Pages(value)) => match value {
-                Some(pages) => {
-                    self.part = Part::Head(Some(pages), size);
-                    Ok(Turn::On)
-                }
-                None => Err(self.refusal(Refusal::BadComment, at)),
-            },
-            (Part::Head(pages, None), Comment::BoundingBox(value)) => match value {
-                Some(size) => {
-                    self.part = Part::Head(pages, Some(size));
-                    Ok(Turn::On)
-                }
-                None => Err(self.refusal(Refusal::BadComment, at)),
-            },
-            (Part::Preamble | Part::Leaves, Comment::Page { ordinal: None, .. }) => {
-                Err(self.refusal(Refusal::BadComment, at))
+            (Part::Head(None, size), Comment::Pages(value)) => {
+                let pages = value.ok_or(self.refusal(Refusal::BadComment, at))?;
+                self.part = Part::Head(Some(pages), size);
+                Ok(Turn::On)
             }
-            (
-                Part::Preamble | Part::Leaves,
-                Comment::Page {
-                    ordinal: Some(ordinal),
-                    ..
-                },
-            ) => {
-                if self.begun < self.pages && ordinal == self.begun + 1 {
+            (Part::Head(pages, None), Comment::BoundingBox(value)) => {
+                let size = value.ok_or(self.refusal(Refusal::BadComment, at))?;
+                self.part = Part::Head(pages, Some(size));
+                Ok(Turn::On)
+            }
+            (Part::Preamble | Part::Leaves, Comment::Page(value)) => {
+                let page = value.ok_or(self.refusal(Refusal::BadComment, at))?;
+                if self.begun < self.pages && page.ordinal == self.begun + 1 {
                     let ink = self.ink(at);
                     self.part = Part::Leaves;
-                    self.begun = ordinal;
+                    self.begun = page.ordinal;
                     self.from = next;
                     Ok(Turn::Ink(ink))
                 } else {
