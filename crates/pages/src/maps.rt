@@ -3,8 +3,10 @@
 ghost use Rattle.std.specs.Prelude.{◌≡◌, ◌≤◌, true, pos, ◌+ℤ◌, ◌*ℤ◌, if◌then◌else◌, Some, None};
 ghost use Rattle.pages.specs.Limits.{max_turn, max_ratio};
 ghost use Rattle.pages.specs.Maps.{near, fits, turned, identity, followed, composed, MapsCompose};
+ghost use Rattle.pages.specs.Texts.{map_text, size_text};
 
 use crate::limits::{MAX_RATIO, MAX_TURN, MAX_VECTOR};
+use std::fmt;
 
 /// Sends a point p to (num · R^turn p + (x, y)) / den, where R is a quarter turn: (x, y) goes to (−y, x).
 #[derive(Clone, Copy, PartialEq, Eq, Debug)]
@@ -30,10 +32,28 @@ pub struct Size {
     pub height: u32,
 }
 
+impl Size {
+    /// A letter page.
+    pub const LETTER: Size = Size {
+        width: 612,
+        height: 792,
+    };
+}
+
+/// `WIDTH HEIGHT`.
+impl fmt::Display for Size {
+    ghost output = { λ s. Some (size_text s) };
+
+    fn fmt<W: fmt::Write>(&self, f: &mut fmt::Formatter<W>) -> fmt::Result {
+        let Size { width, height } = *self;
+        write!(f, "{width} {height}")
+    }
+}
+
 fn near(v: i64) -> bool
     ensures { result ≡ near v }
 {
-    -MAX_VECTOR <= v && v <= MAX_VECTOR
+    (-MAX_VECTOR..=MAX_VECTOR).contains(&v)
 }
 
 // What q quarter turns make of (x, y).
@@ -118,6 +138,22 @@ impl Map {
             return None;
         }
         self.followed(other)
+    }
+}
+
+/// `TURN NUM DEN X Y`.
+impl fmt::Display for Map {
+    ghost output = { λ m. Some (map_text m) };
+
+    fn fmt<W: fmt::Write>(&self, f: &mut fmt::Formatter<W>) -> fmt::Result {
+        let Map {
+            turn,
+            num,
+            den,
+            x,
+            y,
+        } = *self;
+        write!(f, "{turn} {num} {den} {x} {y}")
     }
 }
 

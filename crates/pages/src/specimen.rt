@@ -6,7 +6,8 @@ ghost use Rattle.std.proofs.Common.{lit≤};
 ghost use Rattle.pages.specs.SpecimenSourceLemmas.{short, formed};
 
 use crate::faults::{Fault, Refusal};
-use crate::maps::{Map, Placement, Size};
+use crate::leaf_pages;
+use crate::maps::{Placement, Size};
 use crate::sources::{Source, write};
 
 /// One letter page with a frame along its edges: one leaf, placed once as it is, and an empty preamble.
@@ -36,10 +37,7 @@ impl Source for Specimen {
         } };
 
     fn size(&self) -> Size {
-        Size {
-            width: 612,
-            height: 792,
-        }
+        Size::LETTER
     }
 
     fn leaves(&self) -> u32 {
@@ -55,21 +53,11 @@ impl Source for Specimen {
     }
 
     fn laid(&self, page: u32) -> Result<u32, Fault> {
-        if page == 1 {
-            Ok(1)
-        } else {
-            Err(Fault::new(Refusal::NoSuch, 1, page))
-        }
+        leaf_pages::laid(1, page)
     }
 
     fn place(&self, page: u32, slot: u32) -> Result<Placement, Fault> {
-        if page != 1 || slot != 1 {
-            return Err(Fault::new(Refusal::NoSuch, 1, page));
-        }
-        Ok(Placement {
-            leaf: 1,
-            map: Map::identity(),
-        })
+        leaf_pages::place(1, page, slot)
     }
 
     fn length(&self, leaf: u32) -> Result<u32, Fault> {
