@@ -17,7 +17,7 @@ impl fmt::Display for Said {
             Answer::Ended(length) => write!(f, "ended {length}"),
             Answer::Counted(count) => write!(f, "count {count}"),
             Answer::Shown(Cell { page, mark }) => {
-                let mark = mark.number();
+                let mark = u32::from(mark);
                 write!(f, "cell {page} {mark}")
             }
             Answer::Measured(Size { width, height }) => write!(f, "size {width} {height}"),

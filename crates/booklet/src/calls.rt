@@ -8,7 +8,6 @@ use books::output::Output;
 use fold::{Signature, Word};
 use pages::limits::{MAX_INK, MAX_PAGES};
 use pages::sources::Source;
-use plan::records::positions;
 use runs::calls::Call;
 use signature::imposition::Scheme;
 use std::io;
@@ -53,7 +52,7 @@ fn records(order: Scheme, printed: u32) -> usize {
     let Some(signature) = Signature::new(word, order.sheets) else {
         return 0;
     };
-    (printed as usize).saturating_mul(positions(&signature) as usize)
+    (printed as usize).saturating_mul(signature.cells() as usize)
 }
 
 fn print_answers(rt: &HostRuntime, output: &Output) -> io::Result<()> {

@@ -2,3 +2,4 @@ pub mod Law
 pub mod Order
 pub mod Masks
 pub mod Steps
+pub mod Spelling

@@ -2,7 +2,7 @@ ghost use Rattle.std.specs.Prelude.{◌≡◌, ◌^◌, ◌≤◌, length, Match
 ghost use Rattle.fold.specs.Folding.{page_count};
 ghost use Rattle.fold.specs.Signatures.{ReadsInOrder, Thick, letters_of};
 ghost use Rattle.fold.specs.Walk.{cell_at};
-ghost use Rattle.fold.specs.Words.{columns_of, rows_of};
+ghost use Rattle.fold.specs.Words.{cells, columns_of, rows_of};
 
 use super::Signature;
 use crate::sheets::{Cell, Position, Side};
@@ -37,9 +37,11 @@ impl Signature {
         self.word().columns()
     }
 
-    /// The cells of a side.
-    fn cells(&self) -> u32
-        ensures { (result ≡ 2 ^ length (letters_of self.now)) × (result ≤ 16) }
+    /// The cells of each side.
+    pub fn cells(&self) -> u32
+        ensures all { result ≡ cells (letters_of self.now) }
+        ensures power { result ≡ 2 ^ length (letters_of self.now) }
+        ensures few { result ≤ 16 }
     {
         self.rows() * self.columns()
     }
