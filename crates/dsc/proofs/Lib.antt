@@ -2,7 +2,7 @@ pub mod Spans
 pub mod Keywords
 pub mod Labels
 pub mod FirstLine
-pub mod Turns
+pub mod Came
 pub mod Pairs
 pub mod Grows
 pub mod Calm

@@ -31,6 +31,14 @@ view (BoundingBox v) = box v
 view (Page p) = page_view p
 view Other = other
 
+abbrev pub heading_of : Comment → Option Heading
+heading_of EndComments = None
+heading_of Trailer = None
+heading_of (Pages v) = None
+heading_of (BoundingBox v) = None
+heading_of (Page p) = p
+heading_of Other = None
+
 -- the values in range
 abbrev pub at_most : ℕ → Option ℕ → Option ℕ
 at_most m None = None

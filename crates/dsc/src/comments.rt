@@ -2,7 +2,7 @@
 ghost use Rattle.std.specs.Prelude.{◌≡◌, ◌==◌, length};
 ghost use Rattle.std.specs.List.{position};
 ghost use Rattle.std.specs.Option.{option_map};
-ghost use Rattle.dsc.specs.Comments.{view, page_view, kind, keyword_of, marked_of, strip, pages_of, box_of, sided, label_of, ordinal_of, ordinal_at, label_len, paren_len, plain_len, paged, Parted};
+ghost use Rattle.dsc.specs.Comments.{view, kind, heading_of, page_view, keyword_of, marked_of, strip, pages_of, box_of, sided, label_of, ordinal_of, ordinal_at, label_len, paren_len, plain_len, paged, Parted};
 ghost use Rattle.dsc.specs.Values.{trim, word_of, number_of};
 
 use crate::values::{number, trimmed, word};
@@ -27,6 +27,18 @@ pub enum Comment<'a> {
     Page(Option<Heading<'a>>),
     /// Any other comment, and a line that is none.
     Other,
+}
+
+impl<'a> Comment<'a> {
+    /// What the line says, if it is a Page line that can be read.
+    pub(crate) fn heading(self) -> Option<Heading<'a>>
+        ensures { result ≡ heading_of self.entry }
+    {
+        match self {
+            Comment::Page(value) => value,
+            _ => None,
+        }
+    }
 }
 
 // What follows the two bytes `%%`.

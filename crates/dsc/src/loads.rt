@@ -1,32 +1,17 @@
 //! A reader is filled in place, and hands out labels.
-ghost use Rattle.std.specs.Prelude.{◌≡◌, ◌≤◌, [], ◌∷◌, length, take, drop, Decides};
-ghost use Rattle.dsc.specs.Bounds.{most_numbers};
+ghost use Rattle.std.specs.Prelude.{◌≡◌};
 ghost use Rattle.dsc.specs.Scans.{scanned};
 ghost use Rattle.dsc.specs.Readers.{Verified, Unloaded, load_answer, meaning_of};
-ghost use Rattle.dsc.specs.Loads.{Loaded, Labels, Inks};
+ghost use Rattle.dsc.specs.Loads.{Loaded, Lies, Labels, Inks};
 
-use crate::comments::{Comment, kind_of};
+use crate::comments::kind_of;
 use crate::lines::text;
 use crate::reader::Dsc;
 use crate::reading::Opened;
-use crate::readings::LETTER;
-use crate::scanner::{Scanner, Span};
+use crate::scanner::Scanner;
 use pages::faults::{Fault, Refusal};
-
-// The index has this pair at `k`.
-fn holds(index: &[u32], k: usize, ink: Span) -> bool
-    requires { k ≤ most_numbers }
-    ensures { Decides result (take 2 (drop k index.now) ≡ ink.offset ∷ ink.length ∷ []) }
-{
-    if index.len() <= k + 1 {
-        return false;
-    }
-    let (offset, length) = (index[k], index[k + 1]);
-    if offset != ink.offset {
-        return false;
-    }
-    length == ink.length
-}
+use pages::maps::Size;
+use pages::spans::Span;
 
 impl<'a> Opened<'a> {
     // Reads the file as scan does, and compares the index with what scan would write.
@@ -35,8 +20,10 @@ impl<'a> Opened<'a> {
     {
         let mut reading = self.inks();
         let mut same = true;
-        for (leaf, ink) in reading.by_ref().enumerate() {
-            same &= holds(index, 2 * leaf, ink?);
+        // no `for`, which would leave nothing known of the reading
+        while let Some(ink) = reading.next() {
+            let ink = ink?;
+            same &= Span::at(index, ink.leaf as usize) == Some(ink.span);
         }
         if !same {
             return Err(Fault::new(Refusal::WrongIndex, 1, 0));
@@ -54,7 +41,7 @@ impl<'a> Dsc<'a> {
             file: &[],
             index: &[0, 0],
             leaves: 0,
-            size: LETTER,
+            size: Size::LETTER,
         }
     }
 
@@ -72,21 +59,32 @@ impl<'a> Dsc<'a> {
         Ok(found.begun)
     }
 
+    // Where the ink of a leaf lies.
+    fn span(&self, leaf: u32) -> Result<Span, Fault>
+        ensures { Lies self.now leaf result }
+    {
+        let no_such = Fault::new(Refusal::NoSuch, 1, leaf);
+        if leaf > self.leaves {
+            return Err(no_such);
+        }
+        Span::at(self.index, leaf as usize).ok_or(no_such)
+    }
+
     /// The label of a leaf, as a part of the file.
     pub fn label(&self, leaf: u32) -> Result<&'a [u8], Fault>
         ensures { Labels self.now leaf result }
     {
-        let file = self.file;
-        let index = self.index;
         if leaf == 0 || leaf > self.leaves {
             return Err(Fault::new(Refusal::NoSuch, 1, leaf));
         }
-        let i = 2 * leaf as usize;
-        let a = index[i - 2] as usize + index[i - 1] as usize;
-        let b = index[i] as usize;
-        match kind_of(text(&file[a..b])) {
-            Comment::Page(Some(page)) => Ok(page.label),
-            _ => unreachable(),
+        let file = self.file;
+        let before = self.span(leaf - 1)?;
+        let ink = self.span(leaf)?;
+        let from = before.offset as usize + before.length as usize;
+        let line = &file[from..ink.offset as usize];
+        match kind_of(text(line)).heading() {
+            Some(page) => Ok(page.label),
+            None => unreachable(),
         }
     }
 
@@ -95,13 +93,8 @@ impl<'a> Dsc<'a> {
         ensures { Inks self.now leaf result }
     {
         let file = self.file;
-        let index = self.index;
-        if leaf > self.leaves {
-            return Err(Fault::new(Refusal::NoSuch, 1, leaf));
-        }
-        let i = 2 * leaf as usize;
-        let from = index[i] as usize;
-        let end = from + index[i + 1] as usize;
-        Ok(&file[from..end])
+        let span = self.span(leaf)?;
+        let from = span.offset as usize;
+        Ok(&file[from..from + span.length as usize])
     }
 }

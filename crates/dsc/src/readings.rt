@@ -4,23 +4,17 @@ ghost use Rattle.std.specs.Iterator.{at_most};
 ghost use Rattle.pages.specs.Inks.{lines_of};
 ghost use Rattle.dsc.specs.Bounds.{longest};
 ghost use Rattle.dsc.specs.Scans.{run, start, scanned};
-ghost use Rattle.dsc.specs.Readings.{rest, left, Gives, Onward, Opens};
+ghost use Rattle.dsc.specs.Readings.{rest, left, Next, Gives, Onward, Opens};
 
 use crate::comments::kind_of;
 use crate::lines::{first_line, text};
 use crate::reading::{Opened, Reading};
-use crate::scanner::{Part, Scanner, Span, Turn};
+use crate::scanner::{LeafInk, Part, Scanner, Turn};
 use pages::faults::{Fault, Refusal};
 use pages::maps::Size;
 
-/// The longest file, in bytes.
+/// The longest file, in bytes; an ink has a bound of its own.
 const LONGEST: usize = 16_777_216;
-
-/// The size of a page before a file says another.
-pub(crate) const LETTER: Size = Size {
-    width: 612,
-    height: 792,
-};
 
 impl<'a> Opened<'a> {
     // The checks of a file's length and of its first bytes.
@@ -38,7 +32,8 @@ impl<'a> Opened<'a> {
 
     // A reading that is about to begin.
     pub(crate) fn inks(&self) -> Reading<'a>
-        ensures { rest result [] ≡ scanned self.now.file.now }
+        ensures rest { rest result [] ≡ scanned self.now.file.now }
+        ensures preamble { Next result 0 }
     {
         Reading {
             unread: Some(self.file),
@@ -46,7 +41,7 @@ impl<'a> Opened<'a> {
             scanner: Scanner {
                 part: Part::Head(None, None),
                 pages: 0,
-                size: LETTER,
+                size: Size::LETTER,
                 begun: 0,
                 from: 0,
             },
@@ -56,10 +51,10 @@ impl<'a> Opened<'a> {
 
 impl<'a> Reading<'a> {
     // Reads the lines up to the one that ends an ink.
-    fn ink(&mut self, unread: &'a [u8]) -> Result<Span, Fault>
+    fn ink(&mut self, unread: &'a [u8]) -> Result<LeafInk, Fault>
         requires taken { self.old.unread ≡ None }
         requires short { self.old.at + length unread.now ≤ longest }
-        ensures onward { Onward (λ xs. run self.old.scanner self.old.at xs (lines_of unread.now)) result self.new }
+        ensures onward { Onward (λ xs. run self.old.scanner self.old.at xs (lines_of unread.now)) self.old.scanner.begun result self.new }
         ensures left { left self.new ≤ length unread.now }
     {
         let mut unread = unread;
@@ -84,13 +79,13 @@ impl<'a> Reading<'a> {
 }
 
 impl<'a> Iterator for Reading<'a> {
-    type Item = Result<Span, Fault>;
+    type Item = Result<LeafInk, Fault>;
 
     ghost next_gives = { Gives };
 
     ghost remaining = { λ s. at_most (left s) };
 
-    fn next(&mut self) -> Option<Result<Span, Fault>> {
+    fn next(&mut self) -> Option<Result<LeafInk, Fault>> {
         let unread = self.unread.take()?;
         Some(self.ink(unread))
     }

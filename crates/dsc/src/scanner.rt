@@ -1,11 +1,12 @@
 //! The scanner: what each line of a DSC file does, by the part that it stands in.
 ghost use Rattle.std.specs.Prelude.{◌≡◌, ◌≤◌, [], ◌∷◌};
 ghost use Rattle.dsc.specs.Comments.{view};
-ghost use Rattle.dsc.specs.Scans.{step, told, at_line, pair};
+ghost use Rattle.dsc.specs.Scans.{Counts, step, told, at_line, pair};
 
 use crate::comments::Comment;
 use pages::faults::{Fault, Refusal};
 use pages::maps::Size;
+use pages::spans::Span;
 
 /// The part of the file that a line stands in.
 #[derive(Clone, Copy)]
@@ -29,19 +30,19 @@ pub struct Scanner {
     pub from: u32,
 }
 
-/// Where an ink lies in the file.
+/// The ink of a leaf, as it lies in the file.
 #[derive(Clone, Copy)]
-pub struct Span {
-    pub offset: u32,
-    pub length: u32,
+pub struct LeafInk {
+    pub leaf: u32,
+    pub span: Span,
 }
 
 /// What a line did: nothing for the index, or it ended an ink, or the reading with its last ink.
 #[derive(Clone, Copy)]
 pub enum Turn {
     On,
-    Ink(Span),
-    End(Span),
+    Ink(LeafInk),
+    End(LeafInk),
 }
 
 impl Scanner {
@@ -56,14 +57,18 @@ impl Scanner {
         }
     }
 
-    // The ink that ends at `at`.
-    fn ink(&self, at: u32) -> Span
+    // The ink that ends at `at`: the last begun leaf's, or the preamble's.
+    fn ink(&self, at: u32) -> LeafInk
         requires { self.now.from ≤ at }
-        ensures { result.offset ∷ result.length ∷ [] ≡ pair self.now at }
+        ensures leaf { result.leaf ≡ self.now.begun }
+        ensures pair { result.span.offset ∷ result.span.length ∷ [] ≡ pair self.now at }
     {
-        Span {
-            offset: self.from,
-            length: at - self.from,
+        LeafInk {
+            leaf: self.begun,
+            span: Span {
+                offset: self.from,
+                length: at - self.from,
+            },
         }
     }
 
@@ -72,6 +77,7 @@ impl Scanner {
         requires from_before { self.old.from ≤ at }
         requires next_after { at ≤ next }
         ensures behind { self.new.from ≤ next }
+        ensures counted { Counts self.old result self.new }
         ensures told { told self.new result ≡ step self.old at next (view kind.entry) }
     {
         match (self.part, kind) {

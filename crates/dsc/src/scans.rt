@@ -12,27 +12,25 @@ impl<'a> Opened<'a> {
         ensures { Surveyed self.now.file.now result }
     {
         let mut reading = self.inks();
-        for ink in &mut reading {
+        // no `for`, which would leave nothing known of the reading
+        while let Some(ink) = reading.next() {
             ink?;
         }
         Ok(reading.scanner.begun)
     }
 
     // Writes the pairs of the inks.
-    fn fill(&self, index: &mut [u32])
+    fn fill(&self, index: &mut [u32]) -> Result<(), Fault>
         requires accepted { scanned self.now.file.now ≡ Ok (meant self.now.file.now) }
         requires room { length (meant self.now.file.now).index ≤ length index.old }
-        ensures { index.new ≡ indexed (scanned self.now.file.now) index.old }
+        ensures answer { result ≡ Ok tt }
+        ensures after { index.new ≡ indexed (scanned self.now.file.now) index.old }
     {
-        for (leaf, ink) in self.inks().enumerate() {
-            match ink {
-                Ok(ink) => {
-                    index[2 * leaf] = ink.offset;
-                    index[2 * leaf + 1] = ink.length;
-                }
-                Err(_) => unreachable(),
-            }
+        for ink in self.inks() {
+            let ink = ink?;
+            ink.span.put(index, ink.leaf as usize)?;
         }
+        Ok(())
     }
 }
 
@@ -48,6 +46,6 @@ pub fn scan(file: &[u8], index: &mut [u32]) -> Result<u32, Fault>
     if room > index.len() {
         return Err(Fault::new(Refusal::ShortBuffer, 1, 0));
     }
-    file.fill(index);
+    file.fill(index)?;
     Ok(leaves)
 }

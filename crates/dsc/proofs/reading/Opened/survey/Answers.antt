@@ -1,23 +1,18 @@
-use Rattle.std.proofs.Common.{◌≡◌, [], ◌∷◌, ◌++◌, Ok, Err, sym, ap, ◌∙◌, rules}
-use Rattle.std.proofs.lemmas.Result.{err_from_is_err_and}
-use Rattle.dsc.specs.Readings.{rest, numbers, Onward}
+use Rattle.std.proofs.Common.{◌++◌, Some, Ok}
+use Rattle.dsc.specs.Scans.{read}
+use Rattle.dsc.specs.Readings.{numbers, Gives}
+use Rattle.dsc.proofs.Came.{came_on, came_done}
 use Rattle.dsc.proofs.Rooms.{room}
 use Rattle.dsc.proofs.reading.Opened.survey.Goals as goal
 
-pub loop-ink-init : goal.loop-ink-init
-loop-ink-init c = ([], ?)
-
 pub loop-ink-preserved : goal.loop-ink-preserved
 loop-ink-preserved c =
-    let xs = c.loop-ink.invariant.0 in
-    let on = rw c.in_ok-ink.was at c.in-Some.ensures.steps in
-    (xs ++ numbers c.in_ok-ink.field-0, sym (on xs) ∙ c.loop-ink.invariant.1)
-
-pub returns-in_err-ink : goal.returns-in_err-ink
-returns-in_err-ink c =
-    let p = err_from_is_err_and c.from_residual.result c.from_residual.ensures.1 in
-    let on = rw c.in_err-ink.was at c.in-Some.ensures.steps in
-    rw (p.1, p.2) (sym c.loop-ink.invariant.1 ∙ on c.loop-ink.invariant.0)
+    let inv = c.loop-ink.invariant in
+    let ink = c.in_ok-ink.field-0 in
+    (inv.0 ++ numbers ink, came_on c.args.self.now.file.now inv.0 c.loop-ink.reading c.next.new.self inv.1 ink (rw c.in_ok-ink.was at c.in-Some.ensures.steps))
 
 pub returns : goal.returns
-returns c = let h = c.next.auto.self in ?
+returns c =
+    let inv = c.loop-ink.invariant in
+    let file = c.args.self.now.file.now in
+    room file (read c.next.new.self.scanner inv.0) (came_done file inv.0 c.loop-ink.reading c.next.new.self inv.1 c.in_default.ensures.steps)

@@ -1,7 +1,10 @@
-use Rattle.std.proofs.Common.{◌≡◌, ℕ, List}
-use Rattle.dsc.specs.Scans.{scanned}
-use Rattle.dsc.specs.Readings.{rest}
+use Rattle.std.proofs.Common.{ℕ, List}
+use Rattle.dsc.specs.Readings.{left}
+use Rattle.dsc.proofs.Came.{Came}
 use Rattle.dsc.proofs.reading.Opened.survey.Given as goal
 
 abbrev pub invariant-loop-ink : goal.invariant-loop-ink
-invariant-loop-ink l = (xs : List ℕ) × (rest l.ink-iterator xs ≡ scanned l.self.file.now)
+invariant-loop-ink l = (xs : List ℕ) × Came l.self.file.now l.reading xs
+
+abbrev pub decreases-loop-ink : goal.decreases-loop-ink
+decreases-loop-ink l = left l.reading

@@ -9,6 +9,7 @@ invariant-loop-line l = record {
   taken : l.self.unread ≡ None;
   short : l.self.at + length l.unread ≤ longest;
   fewer : length l.unread ≤ length l.initial.unread;
+  begun : l.self.scanner.begun ≡ l.initial.self.scanner.begun;
   same : (xs : List ℕ) → run l.initial.self.scanner l.initial.self.at xs (lines_of l.initial.unread) ≡ run l.self.scanner l.self.at xs (lines_of l.unread);
 }
 
