@@ -1,11 +1,16 @@
 -- The first line of a file, and the lines behind it.
-use Rattle.std.proofs.Common.{◌≡◌, ℕ, suc, ◌+◌, ◌<◌, ◌≤◌, Bool, true, false, cond, not, eqb, List, [], ◌∷◌, ◌++◌, length, take, drop, sym, refl, ap, ◌∙◌, ⊎_elim, arith}
+use Rattle.std.proofs.Common.{◌≡◌, ℕ, suc, ◌+◌, ◌<◌, ◌≤◌, min, Bool, true, false, cond, not, eqb, List, [], ◌∷◌, ◌++◌, length, take, drop, sym, refl, ap, ◌∙◌, ⊎_elim, arith, take-append-drop}
 use Rattle.std.proofs.lemmas.Bool.{cond-true, cond-false, cases_Bool, not_from_true, not_from_false}
-use Rattle.std.proofs.lemmas.List.{append_assoc}
+use Rattle.std.proofs.lemmas.List.{append_assoc, length-take}
 use Rattle.pages.specs.Pieces.{Piece, fresh, done, unended, after, pieces}
 use Rattle.pages.specs.Inks.{Context, plain, lines, line, lines_of}
 use Rattle.pages.proofs.Lines.{last_push}
-use Rattle.dsc.specs.Lines.{until, line_len}
+use Rattle.text.specs.Searches.{until}
+use Rattle.dsc.specs.Lines.{Begins}
+
+-- the first line's length, its line feed included
+abbrev pub line_len : List ℕ → ℕ
+line_len bs = min (until 10 bs + 1) (length bs)
 
 until_now : (b : ℕ) (bs : List ℕ) → eqb b 10 ≡ true → until 10 (b ∷ bs) ≡ 0
 until_now b bs t = cond-false (not (eqb b 10)) _ _ (not_from_true _ t)
@@ -54,11 +59,12 @@ begun (b ∷ c ∷ cs) xs l =
     ∙ sym (ap (cut_at xs (b ∷ c ∷ cs)) (line_later b (c ∷ cs) f)))
     (cases_Bool (eqb b 10))
 
-pub first_line : (bs : List ℕ) → 0 < length bs → lines_of bs ≡ line (take (line_len bs) bs) ∷ lines_of (drop (line_len bs) bs)
+first_line : (bs : List ℕ) → 0 < length bs → lines_of bs ≡ line (take (line_len bs) bs) ∷ lines_of (drop (line_len bs) bs)
 first_line bs l = begun bs [] l
 
-pub line_some : (bs : List ℕ) → 0 < length bs → 0 < line_len bs
-line_some bs l = omega arith
-
-pub line_le : (bs : List ℕ) → line_len bs ≤ length bs
-line_le bs = omega arith
+pub begins : (bs : List ℕ) → 0 < length bs → Begins bs (take (line_len bs) bs) (drop (line_len bs) bs)
+begins bs l = record {
+  some = omega (arith, length-take (line_len bs) bs);
+  whole = sym (take-append-drop (line_len bs) bs);
+  lines = first_line bs l;
+}

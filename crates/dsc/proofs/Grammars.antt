@@ -6,12 +6,12 @@ use Rattle.std.proofs.lemmas.Bool.{cond-true, cond-false, cond_both, cases_Bool,
 use Rattle.std.proofs.lemmas.List.{take_at, drop_at, append-nil, append_assoc, length-take-le}
 use Rattle.pages.specs.declared.maps.Size.{Size}
 use Rattle.pages.specs.Limits.{max_pages, max_side}
-use Rattle.dsc.specs.Lines.{until}
+use Rattle.text.specs.Searches.{until}
 use Rattle.dsc.specs.Values.{blanks, trim, word_of, past_word, digit, digits, number_of}
 use Rattle.dsc.specs.Comments.{Kind, end_comments, trailer, pages, box, page, other, kind, keyword_of, keyword_or, strip, else_pages, else_box, else_page, paged, alone, at_most, side, sized, pages_of, box_of, label_len, paren_len, plain_len, label_of, past_label, ordinal_at, ordinal_of}
 use Rattle.dsc.specs.Grammar.{spaces, Each, Not, Digit, value_from, Numeral, Bare, Enclosed, Label, PagesText, BoxText, PageText, CommentsAreWritten}
 use Rattle.dsc.proofs.Spans.{number_digits, trim_stop, until_le}
-use Rattle.dsc.proofs.Keywords.{plain_at}
+use Rattle.dsc.proofs.Labels.{plain_at}
 
 none_some : {A : Type 0} (a : A) → ◌≡◌ {A = Option A} None (Some a) → ⊥
 none_some a e = let z : ◌≡◌ {A = ℕ} 0 1 = cc in omega arith

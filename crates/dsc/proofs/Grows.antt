@@ -1,12 +1,12 @@
 -- A reading only adds to the index, and goes on from where its first lines left it.
-use Rattle.std.proofs.Common.{◌≡◌, ℕ, ◌+◌, ◌≤◌, Bool, true, false, cond, List, [], ◌∷◌, ◌++◌, length, drop, Ok, Err, Result, ap, arith, length-append}
+use Rattle.std.proofs.Common.{◌≡◌, ℕ, ◌+◌, ◌≤◌, List, [], ◌∷◌, ◌++◌, length, Some, None, Ok, Err, Option, Result, ap, Bor, arith, length-append}
 use Rattle.pages.specs.declared.faults.Fault.{Fault}
 use Rattle.dsc.specs.declared.scanner.Scanner.{Scanner}
 use Rattle.dsc.specs.declared.reading.Reading.{Reading}
 use Rattle.dsc.specs.Scans.{Read, read, Step, goes, ends, stops, step, follow, kind_of, run}
 use Rattle.pages.specs.Pieces.{Piece}
 use Rattle.pages.specs.Inks.{Context, lines_of}
-use Rattle.dsc.specs.Readings.{rest}
+use Rattle.dsc.specs.Readings.{rest, comes}
 
 pub never : (f : Fault) (o : Read) → ◌≡◌ {A = Result Read Fault} (Err f) (Ok o) → ⊥
 never f o e = let z : ◌≡◌ {A = ℕ} 0 1 = cc in omega arith
@@ -24,8 +24,8 @@ grows [] s at xs o e = absurd (never _ o e)
 grows (p ∷ ps) s at xs o e = step_grows (step s at (at + length p.bytes) (kind_of p)) xs (λ s' ys. run s' (at + length p.bytes) ys ps) o (λ s' ys. grows ps s' (at + length p.bytes) ys o) e
 
 pub rest_grows : (w : Reading) (xs : List ℕ) (o : Read) → rest w xs ≡ Ok o → length xs ≤ length o.index
-rest_grows w xs o = by w.over
+rest_grows w xs o = by w.unread
   where
-    by : (b : Bool) → cond b (Ok (read w.scanner xs)) (run w.scanner w.at xs (lines_of (drop w.at w.file.now))) ≡ Ok o → length xs ≤ length o.index
-    by true e = omega (arith, ap (λ (p : Read). length p.index) (same_read _ _ e))
-    by false e = grows (lines_of (drop w.at w.file.now)) w.scanner w.at xs o e
+    by : (u : Option (Bor (List ℕ))) → comes w.scanner w.at xs u ≡ Ok o → length xs ≤ length o.index
+    by None e = omega (arith, ap (λ (p : Read). length p.index) (same_read _ _ e))
+    by (Some bs) e = grows (lines_of bs.now) w.scanner w.at xs o e

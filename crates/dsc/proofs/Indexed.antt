@@ -176,21 +176,21 @@ held_inside file index leaf h l =
     let long = (known file).long in
     omega (arith, held_at file index h (2 * leaf) (omega arith), held_at file index h (2 * leaf + 1) (omega arith), ((known file).spot leaf l).inside)
 
-pub held_line : (file index : List ℕ) (leaf : ℕ) → Held file index → 1 ≤ leaf → leaf ≤ (meant file).leaves → Between file (get_or index (2 * leaf - 2) 0 + get_or index (2 * leaf - 1) 0) (get_or index (2 * leaf) 0) leaf
+pub held_line : (file index : List ℕ) (leaf : ℕ) → Held file index → 1 ≤ leaf → leaf ≤ (meant file).leaves → Between file (get_or index (2 * (leaf - 1)) 0 + get_or index (2 * (leaf - 1) + 1) 0) (get_or index (2 * leaf) 0) leaf
 held_line file index zero h low l = absurd (omega arith)
 held_line file index (suc j) h low l =
     let xs = (meant file).index in
     let long = (known file).long in
-    let e0 : 2 * j ≡ 2 * suc j - 2 = omega arith in
-    let e1 : 2 * j + 1 ≡ 2 * suc j - 1 = omega arith in
+    let e0 : 2 * j ≡ 2 * (suc j - 1) = omega arith in
+    let e1 : 2 * j + 1 ≡ 2 * (suc j - 1) + 1 = omega arith in
     let e2 : 2 * j + 2 ≡ 2 * suc j = omega arith in
     let ek : j + 1 ≡ suc j = omega arith in
-    let a : get_or xs (2 * j) 0 ≡ get_or index (2 * suc j - 2) 0 = held_at file index h (2 * j) (omega arith) ∙ ap (λ i. get_or index i 0) e0 in
-    let b : get_or xs (2 * j + 1) 0 ≡ get_or index (2 * suc j - 1) 0 = held_at file index h (2 * j + 1) (omega arith) ∙ ap (λ i. get_or index i 0) e1 in
+    let a : get_or xs (2 * j) 0 ≡ get_or index (2 * (suc j - 1)) 0 = held_at file index h (2 * j) (omega arith) ∙ ap (λ i. get_or index i 0) e0 in
+    let b : get_or xs (2 * j + 1) 0 ≡ get_or index (2 * (suc j - 1) + 1) 0 = held_at file index h (2 * j + 1) (omega arith) ∙ ap (λ i. get_or index i 0) e1 in
     let c : get_or xs (2 * j + 2) 0 ≡ get_or index (2 * suc j) 0 = held_at file index h (2 * j + 2) (omega arith) ∙ ap (λ i. get_or index i 0) e2 in
-    subst (λ k. Between file (get_or index (2 * suc j - 2) 0 + get_or index (2 * suc j - 1) 0) (get_or index (2 * suc j) 0) k) ek
-    (subst (λ n. Between file (get_or index (2 * suc j - 2) 0 + get_or index (2 * suc j - 1) 0) n (j + 1)) c
-    (subst (λ n. Between file (get_or index (2 * suc j - 2) 0 + n) (get_or xs (2 * j + 2) 0) (j + 1)) b
+    subst (λ k. Between file (get_or index (2 * (suc j - 1)) 0 + get_or index (2 * (suc j - 1) + 1) 0) (get_or index (2 * suc j) 0) k) ek
+    (subst (λ n. Between file (get_or index (2 * (suc j - 1)) 0 + get_or index (2 * (suc j - 1) + 1) 0) n (j + 1)) c
+    (subst (λ n. Between file (get_or index (2 * (suc j - 1)) 0 + n) (get_or xs (2 * j + 2) 0) (j + 1)) b
     (subst (λ n. Between file (n + get_or xs (2 * j + 1) 0) (get_or xs (2 * j + 2) 0) (j + 1)) a (((known file).spot j (omega arith)).line (omega arith)))))
 
 -- every reader is lawful

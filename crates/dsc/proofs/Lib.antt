@@ -1,7 +1,8 @@
 pub mod Spans
 pub mod Keywords
+pub mod Labels
 pub mod FirstLine
-pub mod Turns
+pub mod Came
 pub mod Pairs
 pub mod Grows
 pub mod Calm
@@ -10,6 +11,7 @@ pub mod Accepted
 pub mod Rebuilt
 pub mod Ranges
 pub mod Indexed
+pub mod Rooms
 pub mod Placed
 pub mod Joined
 pub mod Words

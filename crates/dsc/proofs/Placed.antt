@@ -7,7 +7,7 @@ use Rattle.dsc.specs.Values.{blanks, trim}
 use Rattle.dsc.specs.Comments.{page, kind, label_of, label_len, ordinal_of}
 use Rattle.dsc.specs.Loads.{label_place}
 use Rattle.dsc.proofs.Grammars.{Reads, kind_reads, paged_is}
-use Rattle.dsc.proofs.Keywords.{label_len_le}
+use Rattle.dsc.proofs.Labels.{label_len_le}
 
 -- a Page line's label, behind the keyword
 kind_label : (lab : List ℕ) (n : ℕ) (t : List ℕ) → kind t ≡ page lab (Some n) → label_of (drop 7 t) ≡ lab

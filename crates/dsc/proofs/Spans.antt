@@ -3,7 +3,7 @@ use Rattle.std.proofs.Common.{◌≡◌, ℕ, ◌+◌, ◌-◌, ◌*◌, ◌<◌
 use Rattle.std.proofs.lemmas.Bool.{eq-eqb, ne_eqb, lt-ltb, le-leb, lt-leb, not_from_true, not_from_false, cond-true, cond-false, and_from, and_left, and_right}
 use Rattle.std.proofs.lemmas.List.Sums.{prefix_len-drop_yes, prefix_len-drop_no, prefix_len-drop_all, prefix_len-le-length}
 use Rattle.std.proofs.lemmas.List.{at_drop_more, at_drop_all, take_all}
-use Rattle.dsc.specs.Lines.{until}
+use Rattle.text.specs.Searches.{until}
 use Rattle.dsc.specs.Values.{blanks, trim, digit, digits, number_of}
 
 module _ (xs : List ℕ) (i : ℕ) where
@@ -40,13 +40,16 @@ until_le c xs = prefix_len-le-length (λ b. not (eqb b c)) xs
 pub number_digits : (w : List ℕ) → 0 < length w → length w ≤ 5 → number_of w ≡ digits 0 w
 number_digits w lo hi = cond-true _ _ _ (and_from _ _ (lt-ltb _ _ lo) (le-leb _ _ hi))
 
+pub trim_blank : (b : ℕ) (bs : List ℕ) → eqb b 32 ≡ true → trim (b ∷ bs) ≡ trim bs
+trim_blank b bs t = ap (λ n. drop n (b ∷ bs)) (cond-true (eqb b 32) (1 + blanks bs) 0 t ∙ one-add (blanks bs))
+
+pub trim_word : (b : ℕ) (bs : List ℕ) → eqb b 32 ≡ false → trim (b ∷ bs) ≡ b ∷ bs
+trim_word b bs f = ap (λ n. drop n (b ∷ bs)) (cond-false (eqb b 32) (1 + blanks bs) 0 f)
+
 pub trim_more : (xs : List ℕ) → 0 < length xs → get_or xs 0 0 ≡ 32 → trim (take (length xs - 1) (drop 1 xs)) ≡ trim xs
 trim_more [] l e = absurd (omega arith)
-trim_more (b ∷ bs) l e =
-    let short : take (length (b ∷ bs) - 1) bs ≡ bs = take_all _ bs (omega arith) in
-    let t : eqb b 32 ≡ true = eq-eqb _ _ e in
-    ap trim short ∙ sym (ap (λ n. drop n (b ∷ bs)) (cond-true (eqb b 32) (1 + blanks bs) 0 t ∙ one-add (blanks bs)))
+trim_more (b ∷ bs) l e = ap trim (take_all (length (b ∷ bs) - 1) bs (omega arith)) ∙ sym (trim_blank b bs (eq-eqb _ _ e))
 
 pub trim_stop : (xs : List ℕ) → (get_or xs 0 0 ≡ 32 → ⊥) → trim xs ≡ xs
 trim_stop [] e = refl
-trim_stop (b ∷ bs) e = ap (λ n. drop n (b ∷ bs)) (cond-false (eqb b 32) (1 + blanks bs) 0 (ne_eqb _ _ e))
+trim_stop (b ∷ bs) e = trim_word b bs (ne_eqb _ _ e)

@@ -12,7 +12,3 @@ most_digits = 5
 -- what a DSC file begins with
 abbrev pub mark : List ℕ
 mark = codes "%!PS-Adobe-3.0"
-
--- more numbers than the index of any file has: two for each byte of the longest, and two
-abbrev pub most_numbers : ℕ
-most_numbers = 33554434

@@ -1,12 +1,14 @@
 -- The kinds of a line.
-use Rattle.std.specs.Prelude.{ℕ, ◌+◌, Bool, cond, ◌&&◌, ◌||◌, List, [], length, take, drop, Some, None, codes, Option, ◌==◌, nat_le, nat_lt, slice_index}
+use Rattle.std.specs.Prelude.{◌≡◌, ℕ, ◌+◌, ◌<◌, Bool, cond, ◌&&◌, ◌||◌, List, [], length, take, drop, Some, None, codes, Option, ◌==◌, nat_le, nat_lt, slice_index}
 use Rattle.std.specs.Str.{bytes_eq}
+use Rattle.std.specs.Borrow.{Bor}
 use Rattle.pages.specs.declared.maps.Size.{Size}
 use Rattle.dsc.specs.declared.comments.Comment.{Comment}
+use Rattle.dsc.specs.declared.comments.Heading.{Heading}
 use Rattle.dsc.specs.declared.comments.Comment.TheVariants.{EndComments, Trailer, Pages, BoundingBox, Page, Other}
 use Rattle.pages.specs.Limits.{max_pages, max_side}
 use Rattle.dsc.specs.Values.{word_of, past_word, number_of, trim}
-use Rattle.dsc.specs.Lines.{until}
+use Rattle.text.specs.Searches.{until}
 
 -- what a line is: a text with no `%%` in front is of the kind `other`
 pub data Kind : Type 0 where
@@ -17,13 +19,25 @@ pub data Kind : Type 0 where
   page : List ℕ → Option ℕ → Kind
   other : Kind
 
+abbrev pub page_view : Option Heading → Kind
+page_view None = page [] None
+page_view (Some p) = page p.label.now (Some p.ordinal)
+
 abbrev pub view : Comment → Kind
 view EndComments = end_comments
 view Trailer = trailer
 view (Pages v) = pages v
 view (BoundingBox v) = box v
-view (Page l o) = page l.now o
+view (Page p) = page_view p
 view Other = other
+
+abbrev pub heading_of : Comment → Option Heading
+heading_of EndComments = None
+heading_of Trailer = None
+heading_of (Pages v) = None
+heading_of (BoundingBox v) = None
+heading_of (Page p) = p
+heading_of Other = None
 
 -- the values in range
 abbrev pub at_most : ℕ → Option ℕ → Option ℕ
@@ -39,6 +53,10 @@ pages_of v = alone (past_word v) (at_most max_pages (number_of (word_of v)))
 
 abbrev pub side : ℕ → Bool
 side n = nat_le 1 n && nat_le n max_side
+
+abbrev pub sided : Option ℕ → Option ℕ
+sided None = None
+sided (Some n) = cond (side n) (Some n) None
 
 -- a box that begins at 0 0
 abbrev pub sized : Option ℕ → Option ℕ → Option ℕ → Option ℕ → Option Size
@@ -60,6 +78,11 @@ plain_len t = cond (nat_lt (until 40 (word_of t)) (length (word_of t)) || nat_lt
 
 abbrev pub label_len : List ℕ → ℕ
 label_len t = cond (slice_index t 0 == 40) (paren_len t) (plain_len t)
+
+-- the first n bytes, and what follows them; 0 is none
+abbrev pub Parted : List ℕ → ℕ → Option (Bor (List ℕ) × Bor (List ℕ)) → Type 0
+Parted t n None = n ≡ 0
+Parted t n (Some p) = (0 < n) × (p.0.now ≡ take n t) × (p.1.now ≡ drop n t)
 
 abbrev pub label_of : List ℕ → List ℕ
 label_of v = take (label_len (trim v)) (trim v)

@@ -6,6 +6,7 @@ use Rattle.pages.specs.declared.faults.Refusal.TheVariants.{NoSuch}
 use Rattle.pages.specs.Inks.{text_of}
 use Rattle.pages.specs.Limits.{max_ink}
 use Rattle.pages.specs.Meaning.{Meaning, fault, length_at, end_at, written, pour_at, poured}
+use Rattle.pages.specs.declared.spans.Span.{Span}
 use Rattle.dsc.specs.declared.reader.Dsc.{Dsc}
 use Rattle.dsc.specs.Values.{blanks}
 use Rattle.dsc.specs.Comments.{kind, page}
@@ -16,6 +17,11 @@ use Rattle.dsc.specs.Readers.{offset_of, length_of, meaning_of}
 abbrev pub Loaded : Result ℕ Fault → List ℕ → List ℕ → Dsc → Dsc → Type 0
 Loaded (Ok n) file index old new = (new.file.now ≡ file) × (new.index.now ≡ index)
 Loaded (Err f) file index old new = new ≡ old
+
+-- the pair of a leaf
+abbrev pub Lies : Dsc → ℕ → Result Span Fault → Type 0
+Lies d leaf (Ok s) = (leaf ≤ d.leaves) × (s.offset ≡ offset_of d.index.now leaf) × (s.length ≡ length_of d.index.now leaf)
+Lies d leaf (Err f) = (d.leaves < leaf) × (f ≡ fault NoSuch 1 leaf)
 
 -- where the line begins that opens a leaf: behind the ink before
 abbrev pub line_offset : List ℕ → ℕ → ℕ

@@ -1,5 +1,5 @@
 -- What scan answers and writes.
-use Rattle.std.specs.Prelude.{◌≡◌, ℕ, ◌<◌, cond, List, ◌++◌, length, drop, Ok, Err, Result, nat_le}
+use Rattle.std.specs.Prelude.{◌≡◌, ℕ, ◌+◌, ◌*◌, ◌<◌, cond, List, ◌++◌, length, drop, Ok, Err, Result, nat_le}
 use Rattle.pages.specs.declared.faults.Fault.{Fault}
 use Rattle.pages.specs.declared.faults.Refusal.TheVariants.{ShortBuffer}
 use Rattle.pages.specs.Meaning.{fault}
@@ -19,12 +19,13 @@ abbrev pub indexed : Result Read Fault → List ℕ → List ℕ
 indexed (Err f) old = old
 indexed (Ok o) old = cond (nat_le (length o.index) (length old)) (filled o old) old
 
--- a file that is accepted, and whose index has n numbers: in less room scan is refused, and leaves the index
+-- a file that is accepted and has n leaves: in less room than its index has numbers scan is refused, and leaves the index
 pub record Room (file : List ℕ) (n : ℕ) : Type 0 where
   pub accepted : scanned file ≡ Ok (meant file)
-  pub long : length (meant file).index ≡ n
-  pub short : (room : ℕ) → room < n → answered (scanned file) room ≡ Err (fault ShortBuffer 1 0)
-  pub kept : (old : List ℕ) → length old < n → indexed (scanned file) old ≡ old
+  pub leaves : (meant file).leaves ≡ n
+  pub long : length (meant file).index ≡ 2 * n + 2
+  pub short : (room : ℕ) → room < 2 * n + 2 → answered (scanned file) room ≡ Err (fault ShortBuffer 1 0)
+  pub kept : (old : List ℕ) → length old < 2 * n + 2 → indexed (scanned file) old ≡ old
 
 abbrev pub Surveyed : List ℕ → Result ℕ Fault → Type 0
 Surveyed file (Ok n) = Room file n

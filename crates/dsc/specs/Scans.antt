@@ -85,9 +85,16 @@ step s at next k = by_part s.part s at next k
 -- the same, as the scanner tells it
 abbrev pub told : Scanner → Result Turn Fault → Step
 told s (Ok On) = goes s []
-told s (Ok (Ink i)) = goes s (i.offset ∷ i.length ∷ [])
-told s (Ok (End i)) = ends s (i.offset ∷ i.length ∷ [])
+told s (Ok (Ink i)) = goes s (i.span.offset ∷ i.span.length ∷ [])
+told s (Ok (End i)) = ends s (i.span.offset ∷ i.span.length ∷ [])
 told s (Err f) = stops f
+
+-- an ink that ends is that of the last begun leaf, or of the preamble, and then the next leaf has begun
+abbrev pub Counts : Scanner → Result Turn Fault → Scanner → Type 0
+Counts s (Ok On) t = t.begun ≡ s.begun
+Counts s (Ok (Ink i)) t = (i.leaf ≡ s.begun) × (t.begun ≡ s.begun + 1)
+Counts s (Ok (End i)) t = i.leaf ≡ s.begun
+Counts s (Err f) t = Unit {0}
 
 -- what a file comes to: its leaves but for the preamble, its size, its index
 pub record Read : Type 0 where
@@ -135,8 +142,3 @@ meant_by (Err f) = blank
 -- a file that is refused means what a reader not loaded means
 abbrev pub meant : List ℕ → Read
 meant file = meant_by (scanned file)
-
--- the checks before the first line
-abbrev pub Opens : List ℕ → Result (Unit {0}) Fault → Type 0
-Opens file (Ok u) = (length file ≤ longest) × (scanned file ≡ run start 0 [] (lines_of file))
-Opens file (Err f) = scanned file ≡ Err f

@@ -2,7 +2,7 @@
 use Rattle.std.specs.Prelude.{ℕ, ◌+◌, ◌-◌, ◌*◌, Bool, cond, ◌&&◌, List, [], ◌∷◌, length, take, drop, Some, None, Option, nat_eq, nat_le, nat_lt}
 use Rattle.std.specs.List.{prefix_len}
 use Rattle.dsc.specs.Bounds.{most_digits}
-use Rattle.dsc.specs.Lines.{until}
+use Rattle.text.specs.Searches.{until}
 
 -- how many blanks stand in front
 abbrev pub blanks : List ℕ → ℕ

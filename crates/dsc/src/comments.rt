@@ -1,12 +1,21 @@
 //! The kinds of a line, and the values of its comment.
-ghost use Rattle.std.specs.Prelude.{◌≡◌};
+ghost use Rattle.std.specs.Prelude.{◌≡◌, ◌==◌, length};
+ghost use Rattle.std.specs.List.{position};
 ghost use Rattle.std.specs.Option.{option_map};
-ghost use Rattle.dsc.specs.Comments.{view, kind, keyword_of, marked_of, strip, pages_of, box_of, label_of, ordinal_of, ordinal_at, label_len, paren_len, plain_len, paged};
+ghost use Rattle.dsc.specs.Comments.{view, kind, heading_of, page_view, keyword_of, marked_of, strip, pages_of, box_of, sided, label_of, ordinal_of, ordinal_at, label_len, paren_len, plain_len, paged, Parted};
+ghost use Rattle.dsc.specs.Values.{trim, word_of, number_of};
 
-use crate::lines::before;
 use crate::values::{number, trimmed, word};
 use pages::limits::{MAX_PAGES, MAX_SIDE};
 use pages::maps::Size;
+
+/// What a Page line says.
+#[derive(Clone, Copy)]
+pub struct Heading<'a> {
+    /// A part of the line.
+    pub label: &'a [u8],
+    pub ordinal: u32,
+}
 
 /// What a line is, by its text. A value that cannot be read, or is out of its range, is `None`.
 #[derive(Clone, Copy)]
@@ -15,13 +24,21 @@ pub enum Comment<'a> {
     Trailer,
     Pages(Option<u32>),
     BoundingBox(Option<Size>),
-    /// The label is a part of the line. Without an ordinal it is empty.
-    Page {
-        label: &'a [u8],
-        ordinal: Option<u32>,
-    },
+    Page(Option<Heading<'a>>),
     /// Any other comment, and a line that is none.
     Other,
+}
+
+impl<'a> Comment<'a> {
+    /// What the line says, if it is a Page line that can be read.
+    pub(crate) fn heading(self) -> Option<Heading<'a>>
+        ensures { result ≡ heading_of self.entry }
+    {
+        match self {
+            Comment::Page(value) => value,
+            _ => None,
+        }
+    }
 }
 
 // What follows the two bytes `%%`.
@@ -41,67 +58,105 @@ fn after<'a>(s: &'a [u8], keyword: &[u8]) -> Option<&'a [u8]>
     s.strip_prefix(keyword)
 }
 
+// Whether no word comes any more.
+fn is_blank(rest: &[u8]) -> bool
+    ensures { result ≡ (length (word_of rest.now) == 0) }
+{
+    let (first, _) = word(rest);
+    first.is_empty()
+}
+
 fn pages_value(value: &[u8]) -> Option<u32>
     ensures { result ≡ pages_of value.now }
 {
-    let (first, rest) = word(value);
-    let (more, _) = word(rest);
-    if more.len() != 0 {
+    let (count, rest) = word(value);
+    if !is_blank(rest) {
         return None;
     }
-    match number(first) {
-        Some(n) if n <= MAX_PAGES => Some(n),
-        _ => None,
-    }
+    number(count).filter(|n| *n <= MAX_PAGES)
+}
+
+// A side of a page, which has its bounds.
+fn side(word: &[u8]) -> Option<u32>
+    ensures { result ≡ sided (number_of word.now) }
+{
+    number(word).filter(|n| 1 <= *n && *n <= MAX_SIDE)
 }
 
 fn box_value(value: &[u8]) -> Option<Size>
     ensures { result ≡ box_of value.now }
 {
-    let (x, rest) = word(value);
-    let (y, rest) = word(rest);
-    let (w, rest) = word(rest);
-    let (h, rest) = word(rest);
-    let (more, _) = word(rest);
-    if more.len() != 0 {
+    let (left, rest) = word(value);
+    let (bottom, rest) = word(rest);
+    let (right, rest) = word(rest);
+    let (top, rest) = word(rest);
+    if !is_blank(rest) || number(left)? != 0 || number(bottom)? != 0 {
         return None;
     }
-    match (number(x), number(y), number(w), number(h)) {
-        (Some(0), Some(0), Some(width), Some(height))
-            if 1 <= width && width <= MAX_SIDE && 1 <= height && height <= MAX_SIDE => {
-            Some(Size { width, height })
-        }
-        _ => None,
-    }
+    Some(Size {
+        width: side(right)?,
+        height: side(top)?,
+    })
 }
 
-// The length of a label from `(` to the next `)`, or 0.
-fn paren_size(s: &[u8]) -> usize
-    ensures { result ≡ paren_len s.now }
+// Where the first such byte stands.
+fn find(s: &[u8], wanted: u8) -> Option<usize>
+    ensures { result ≡ position (λ b. b == wanted) s.now }
 {
-    let n = before(s, b')');
-    if n < s.len() { n + 1 } else { 0 }
+    s.iter().position(|b| *b == wanted)
 }
 
-// The length of a label of one word with no parenthesis, or 0.
-fn plain_size(s: &[u8]) -> usize
-    ensures { result ≡ plain_len s.now }
+// A label from `(` to the next `)`, and what follows it.
+fn enclosed<'a>(s: &'a [u8]) -> Option<(&'a [u8], &'a [u8])>
+    ensures { Parted s.now (paren_len s.now) result }
 {
-    let (first, _) = word(s);
-    if before(first, b'(') < first.len() || before(first, b')') < first.len() {
-        return 0;
-    }
-    first.len()
+    let end = find(s, b')')?;
+    Some(s.split_at(end + 1))
 }
 
-// The length of the label in front, or 0.
-fn label_size(s: &[u8]) -> usize
-    ensures { result ≡ label_len s.now }
+// A label of one word with no parenthesis, and what follows it.
+fn bare<'a>(s: &'a [u8]) -> Option<(&'a [u8], &'a [u8])>
+    requires { trim s.now ≡ s.now }
+    ensures { Parted s.now (plain_len s.now) result }
+{
+    let (first, rest) = word(s);
+    if first.is_empty() || first.contains(&b'(') || first.contains(&b')') {
+        return None;
+    }
+    Some((first, rest))
+}
+
+// The label in front, and what follows it.
+fn label<'a>(s: &'a [u8]) -> Option<(&'a [u8], &'a [u8])>
+    requires { trim s.now ≡ s.now }
+    ensures { Parted s.now (label_len s.now) result }
 {
     match s {
-        [b'(', ..] => paren_size(s),
-        _ => plain_size(s),
+        [b'(', ..] => enclosed(s),
+        _ => bare(s),
     }
+}
+
+// The ordinal after a label: a blank, a number, and nothing more.
+fn ordinal(rest: &[u8]) -> Option<u32>
+    ensures { result ≡ ordinal_at rest.now }
+{
+    let [b' ', ..] = rest else {
+        return None;
+    };
+    let (first, more) = word(rest);
+    if !is_blank(more) {
+        return None;
+    }
+    number(first)
+}
+
+fn page_value<'a>(value: &'a [u8]) -> Option<Heading<'a>>
+    ensures { page_view result ≡ paged (label_of value.now) (ordinal_of value.now) }
+{
+    let (label, rest) = label(trimmed(value))?;
+    let ordinal = ordinal(rest)?;
+    Some(Heading { label, ordinal })
 }
 
 fn keyword<'a>(rest: &'a [u8]) -> Comment<'a>
@@ -120,56 +175,14 @@ fn keyword<'a>(rest: &'a [u8]) -> Comment<'a>
         return Comment::BoundingBox(box_value(value));
     }
     if let Some(value) = after(rest, b"Page:") {
-        return page_comment(value);
+        return Comment::Page(page_value(value));
     }
     Comment::Other
-}
-
-// The ordinal after a label: a blank, a number, and nothing more.
-fn ordinal_value(rest: &[u8]) -> Option<u32>
-    ensures { result ≡ ordinal_at rest.now }
-{
-    let [b' ', ..] = rest else {
-        return None;
-    };
-    let (first, more) = word(rest);
-    let (more, _) = word(more);
-    if more.len() != 0 {
-        return None;
-    }
-    number(first)
-}
-
-fn page_comment<'a>(value: &'a [u8]) -> Comment<'a>
-    ensures { view result ≡ paged (label_of value.now) (ordinal_of value.now) }
-{
-    let s = trimmed(value);
-    let n = label_size(s);
-    let (label, rest) = s.split_at(n);
-    if n == 0 {
-        return Comment::Page {
-            label: &[],
-            ordinal: None,
-        };
-    }
-    match ordinal_value(rest) {
-        Some(o) => Comment::Page {
-            label,
-            ordinal: Some(o),
-        },
-        None => Comment::Page {
-            label: &[],
-            ordinal: None,
-        },
-    }
 }
 
 /// The kind of a line, by its text.
 pub(crate) fn kind_of<'a>(text: &'a [u8]) -> Comment<'a>
     ensures { view result ≡ kind text.now }
 {
-    match marked(text) {
-        Some(rest) => keyword(rest),
-        None => Comment::Other,
-    }
+    marked(text).map_or(Comment::Other, |rest| keyword(rest))
 }

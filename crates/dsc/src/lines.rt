@@ -1,26 +1,19 @@
 //! Lines of a file.
 ghost use Rattle.std.specs.Prelude.{◌≡◌};
 ghost use Rattle.pages.specs.Inks.{uncarried, text_of};
-ghost use Rattle.dsc.specs.Lines.{until, line_len};
+ghost use Rattle.dsc.specs.Lines.{Split};
 
-/// How many bytes stand before the first `stop`, or in all.
-pub(crate) fn before(s: &[u8], stop: u8) -> usize
-    ensures { result ≡ until stop s.now }
+use text::before;
+
+/// The first line, its line feed included, and what follows it; none where no byte is left.
+pub(crate) fn first_line<'a>(bytes: &'a [u8]) -> Option<(&'a [u8], &'a [u8])>
+    ensures { Split bytes.now result }
 {
-    for (i, b) in s.iter().enumerate() {
-        if *b == stop {
-            return i;
-        }
+    if bytes.is_empty() {
+        return None;
     }
-    s.len()
-}
-
-/// The length of the first line, its line feed included.
-pub(crate) fn first_len(s: &[u8]) -> usize
-    ensures { result ≡ line_len s.now }
-{
-    let n = before(s, b'\n');
-    if n < s.len() { n + 1 } else { s.len() }
+    let end = (before(bytes, b'\n') + 1).min(bytes.len());
+    Some(bytes.split_at(end))
 }
 
 // A text without the carriage return at its end, if there is one.

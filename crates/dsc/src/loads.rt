@@ -1,51 +1,35 @@
 //! A reader is filled in place, and hands out labels.
-ghost use Rattle.std.specs.Prelude.{◌≡◌, ◌≤◌, [], ◌∷◌, length, take, drop, Decides};
-ghost use Rattle.dsc.specs.Bounds.{most_numbers};
+ghost use Rattle.std.specs.Prelude.{◌≡◌};
 ghost use Rattle.dsc.specs.Scans.{scanned};
 ghost use Rattle.dsc.specs.Readers.{Verified, Unloaded, load_answer, meaning_of};
-ghost use Rattle.dsc.specs.Loads.{Loaded, Labels, Inks};
+ghost use Rattle.dsc.specs.Loads.{Loaded, Lies, Labels, Inks};
 
-use crate::comments::{Comment, kind_of};
+use crate::comments::kind_of;
 use crate::lines::text;
 use crate::reader::Dsc;
-use crate::reading::Reading;
-use crate::readings::{LETTER, opens};
-use crate::scanner::{Scanner, Span};
+use crate::reading::Opened;
+use crate::scanner::Scanner;
 use pages::faults::{Fault, Refusal};
+use pages::maps::Size;
+use pages::spans::Span;
 
-// The index has this pair at `k`.
-fn holds(index: &[u32], k: usize, ink: Span) -> bool
-    requires { k ≤ most_numbers }
-    ensures { Decides result (take 2 (drop k index.now) ≡ ink.offset ∷ ink.length ∷ []) }
-{
-    if index.len() <= k + 1 {
-        return false;
-    }
-    let (offset, length) = (index[k], index[k + 1]);
-    if offset != ink.offset {
-        return false;
-    }
-    length == ink.length
-}
-
-// Reads the file as scan does, and compares the index with what scan would write.
-fn verify(file: &[u8], index: &[u32]) -> Result<Scanner, Fault>
-    ensures { Verified file.now index.now result }
-{
-    opens(file)?;
-    let mut reading = Reading::new(file);
-    let mut k: usize = 0;
-    let mut same = true;
-    while !reading.over {
-        if let Some(ink) = reading.advance()? {
-            same = same & holds(index, k, ink);
-            k += 2;
+impl<'a> Opened<'a> {
+    // Reads the file as scan does, and compares the index with what scan would write.
+    fn verify(&self, index: &[u32]) -> Result<Scanner, Fault>
+        ensures { Verified self.now.file.now index.now result }
+    {
+        let mut reading = self.inks();
+        let mut same = true;
+        // no `for`, which would leave nothing known of the reading
+        while let Some(ink) = reading.next() {
+            let ink = ink?;
+            same &= Span::at(index, ink.leaf as usize) == Some(ink.span);
         }
+        if !same {
+            return Err(Fault::new(Refusal::WrongIndex, 1, 0));
+        }
+        Ok(reading.scanner)
     }
-    if !same {
-        return Err(Fault::new(Refusal::WrongIndex, 1, 0));
-    }
-    Ok(reading.scanner)
 }
 
 impl<'a> Dsc<'a> {
@@ -57,7 +41,7 @@ impl<'a> Dsc<'a> {
             file: &[],
             index: &[0, 0],
             leaves: 0,
-            size: LETTER,
+            size: Size::LETTER,
         }
     }
 
@@ -67,7 +51,7 @@ impl<'a> Dsc<'a> {
         ensures answer { result ≡ load_answer (scanned file.now) index.now }
         ensures after { Loaded result file.now index.now self.old self.new }
     {
-        let found = verify(file, index)?;
+        let found = Opened::new(file)?.verify(index)?;
         self.file = file;
         self.index = index;
         self.leaves = found.begun;
@@ -75,21 +59,32 @@ impl<'a> Dsc<'a> {
         Ok(found.begun)
     }
 
+    // Where the ink of a leaf lies.
+    fn span(&self, leaf: u32) -> Result<Span, Fault>
+        ensures { Lies self.now leaf result }
+    {
+        let no_such = Fault::new(Refusal::NoSuch, 1, leaf);
+        if leaf > self.leaves {
+            return Err(no_such);
+        }
+        Span::at(self.index, leaf as usize).ok_or(no_such)
+    }
+
     /// The label of a leaf, as a part of the file.
     pub fn label(&self, leaf: u32) -> Result<&'a [u8], Fault>
         ensures { Labels self.now leaf result }
     {
-        let file = self.file;
-        let index = self.index;
         if leaf == 0 || leaf > self.leaves {
             return Err(Fault::new(Refusal::NoSuch, 1, leaf));
         }
-        let i = 2 * leaf as usize;
-        let a = index[i - 2] as usize + index[i - 1] as usize;
-        let b = index[i] as usize;
-        match kind_of(text(&file[a..b])) {
-            Comment::Page { label, ordinal: _ } => Ok(label),
-            _ => unreachable(),
+        let file = self.file;
+        let before = self.span(leaf - 1)?;
+        let ink = self.span(leaf)?;
+        let from = before.offset as usize + before.length as usize;
+        let line = &file[from..ink.offset as usize];
+        match kind_of(text(line)).heading() {
+            Some(page) => Ok(page.label),
+            None => unreachable(),
         }
     }
 
@@ -98,13 +93,8 @@ impl<'a> Dsc<'a> {
         ensures { Inks self.now leaf result }
     {
         let file = self.file;
-        let index = self.index;
-        if leaf > self.leaves {
-            return Err(Fault::new(Refusal::NoSuch, 1, leaf));
-        }
-        let i = 2 * leaf as usize;
-        let from = index[i] as usize;
-        let end = from + index[i + 1] as usize;
-        Ok(&file[from..end])
+        let span = self.span(leaf)?;
+        let from = span.offset as usize;
+        Ok(&file[from..from + span.length as usize])
     }
 }

@@ -1,11 +1,12 @@
 //! The scanner: what each line of a DSC file does, by the part that it stands in.
 ghost use Rattle.std.specs.Prelude.{◌≡◌, ◌≤◌, [], ◌∷◌};
 ghost use Rattle.dsc.specs.Comments.{view};
-ghost use Rattle.dsc.specs.Scans.{step, told, at_line, pair};
+ghost use Rattle.dsc.specs.Scans.{Counts, step, told, at_line, pair};
 
 use crate::comments::Comment;
 use pages::faults::{Fault, Refusal};
 use pages::maps::Size;
+use pages::spans::Span;
 
 /// The part of the file that a line stands in.
 #[derive(Clone, Copy)]
@@ -29,23 +30,23 @@ pub struct Scanner {
     pub from: u32,
 }
 
-/// Where an ink lies in the file.
+/// The ink of a leaf, as it lies in the file.
 #[derive(Clone, Copy)]
-pub struct Span {
-    pub offset: u32,
-    pub length: u32,
+pub struct LeafInk {
+    pub leaf: u32,
+    pub span: Span,
 }
 
 /// What a line did: nothing for the index, or it ended an ink, or the reading with its last ink.
 #[derive(Clone, Copy)]
 pub enum Turn {
     On,
-    Ink(Span),
-    End(Span),
+    Ink(LeafInk),
+    End(LeafInk),
 }
 
 impl Scanner {
-    fn refusal(&self, kind: Refusal, at: u32) -> Fault
+    pub(crate) fn refusal(&self, kind: Refusal, at: u32) -> Fault
         ensures { result ≡ at_line kind self.now at }
     {
         Fault {
@@ -56,14 +57,18 @@ impl Scanner {
         }
     }
 
-    // The ink that ends at `at`.
-    fn ink(&self, at: u32) -> Span
+    // The ink that ends at `at`: the last begun leaf's, or the preamble's.
+    fn ink(&self, at: u32) -> LeafInk
         requires { self.now.from ≤ at }
-        ensures { result.offset ∷ result.length ∷ [] ≡ pair self.now at }
+        ensures leaf { result.leaf ≡ self.now.begun }
+        ensures pair { result.span.offset ∷ result.span.length ∷ [] ≡ pair self.now at }
     {
-        Span {
-            offset: self.from,
-            length: at - self.from,
+        LeafInk {
+            leaf: self.begun,
+            span: Span {
+                offset: self.from,
+                length: at - self.from,
+            },
         }
     }
 
@@ -72,6 +77,7 @@ impl Scanner {
         requires from_before { self.old.from ≤ at }
         requires next_after { at ≤ next }
         ensures behind { self.new.from ≤ next }
+        ensures counted { Counts self.old result self.new }
         ensures told { told self.new result ≡ step self.old at next (view kind.entry) }
     {
         match (self.part, kind) {
@@ -82,37 +88,25 @@ impl Scanner {
                 self.from = next;
                 Ok(Turn::On)
             }
-            (Part::Head(_, _), Comment::EndComments | Comment::Trailer | Comment::Page { .. }) => {
+            (Part::Head(_, _), Comment::EndComments | Comment::Trailer | Comment::Page(_)) => {
                 Err(self.refusal(Refusal::OutOfOrder, at))
             }
-            (Part::Head(None, size), Comment::Pages(value)) => match value {
-                Some(pages) => {
-                    self.part = Part::Head(Some(pages), size);
-                    Ok(Turn::On)
-                }
-                None => Err(self.refusal(Refusal::BadComment, at)),
-            },
-            (Part::Head(pages, None), Comment::BoundingBox(value)) => match value {
-                Some(size) => {
-                    self.part = Part::Head(pages, Some(size));
-                    Ok(Turn::On)
-                }
-                None => Err(self.refusal(Refusal::BadComment, at)),
-            },
-            (Part::Preamble | Part::Leaves, Comment::Page { ordinal: None, .. }) => {
-                Err(self.refusal(Refusal::BadComment, at))
+            (Part::Head(None, size), Comment::Pages(value)) => {
+                let pages = value.ok_or(self.refusal(Refusal::BadComment, at))?;
+                self.part = Part::Head(Some(pages), size);
+                Ok(Turn::On)
             }
-            (
-                Part::Preamble | Part::Leaves,
-                Comment::Page {
-                    ordinal: Some(ordinal),
-                    ..
-                },
-            ) => {
-                if self.begun < self.pages && ordinal == self.begun + 1 {
+            (Part::Head(pages, None), Comment::BoundingBox(value)) => {
+                let size = value.ok_or(self.refusal(Refusal::BadComment, at))?;
+                self.part = Part::Head(pages, Some(size));
+                Ok(Turn::On)
+            }
+            (Part::Preamble | Part::Leaves, Comment::Page(value)) => {
+                let page = value.ok_or(self.refusal(Refusal::BadComment, at))?;
+                if self.begun < self.pages && page.ordinal == self.begun + 1 {
                     let ink = self.ink(at);
                     self.part = Part::Leaves;
-                    self.begun = ordinal;
+                    self.begun = page.ordinal;
                     self.from = next;
                     Ok(Turn::Ink(ink))
                 } else {

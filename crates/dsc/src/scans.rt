@@ -1,53 +1,37 @@
 //! Scan: a file is read through once for the checks, and once more to fill the index.
-ghost use Rattle.std.specs.Prelude.{◌≡◌, ◌≤◌, [], length, Ok};
-ghost use Rattle.pages.specs.Inks.{lines_of};
-ghost use Rattle.dsc.specs.Bounds.{longest};
-ghost use Rattle.dsc.specs.Scans.{scanned, meant, run, start};
+ghost use Rattle.std.specs.Prelude.{◌≡◌, ◌≤◌, length, Ok};
+ghost use Rattle.dsc.specs.Scans.{scanned, meant};
 ghost use Rattle.dsc.specs.ScanAnswers.{Surveyed, answered, indexed};
 
-use crate::reading::Reading;
-use crate::readings::opens;
+use crate::reading::Opened;
 use pages::faults::{Fault, Refusal};
 
-// How many numbers the index of a file has.
-fn survey(file: &[u8]) -> Result<usize, Fault>
-    requires short { length file.now ≤ longest }
-    requires opened { scanned file.now ≡ run start 0 [] (lines_of file.now) }
-    ensures { Surveyed file.now result }
-{
-    let mut reading = Reading::new(file);
-    let mut k: usize = 0;
-    while !reading.over {
-        if let Some(_) = reading.advance()? {
-            k += 2;
+impl<'a> Opened<'a> {
+    // How many leaves the file has, if it is accepted.
+    fn survey(&self) -> Result<u32, Fault>
+        ensures { Surveyed self.now.file.now result }
+    {
+        let mut reading = self.inks();
+        // no `for`, which would leave nothing known of the reading
+        while let Some(ink) = reading.next() {
+            ink?;
         }
+        Ok(reading.scanner.begun)
     }
-    Ok(k)
-}
 
-fn fill(file: &[u8], index: &mut [u32]) -> u32
-    requires short { length file.now ≤ longest }
-    requires opened { scanned file.now ≡ run start 0 [] (lines_of file.now) }
-    requires accepted { scanned file.now ≡ Ok (meant file.now) }
-    requires room { length (meant file.now).index ≤ length index.old }
-    ensures answer { answered (scanned file.now) (length index.old) ≡ Ok result }
-    ensures after { index.new ≡ indexed (scanned file.now) index.old }
-{
-    let mut reading = Reading::new(file);
-    let mut k: usize = 0;
-    while !reading.over {
-        match reading.advance() {
-            Ok(found) => {
-                if let Some(ink) = found {
-                    index[k] = ink.offset;
-                    index[k + 1] = ink.length;
-                    k += 2;
-                }
-            }
-            Err(_) => unreachable(),
+    // Writes the pairs of the inks.
+    fn fill(&self, index: &mut [u32]) -> Result<(), Fault>
+        requires accepted { scanned self.now.file.now ≡ Ok (meant self.now.file.now) }
+        requires room { length (meant self.now.file.now).index ≤ length index.old }
+        ensures answer { result ≡ Ok tt }
+        ensures after { index.new ≡ indexed (scanned self.now.file.now) index.old }
+    {
+        for ink in self.inks() {
+            let ink = ink?;
+            ink.span.put(index, ink.leaf as usize)?;
         }
+        Ok(())
     }
-    reading.scanner.begun
 }
 
 /// Reads a DSC file: its number of leaves, and into the index a pair of offset and length for each ink, the preamble's first.
@@ -56,10 +40,12 @@ pub fn scan(file: &[u8], index: &mut [u32]) -> Result<u32, Fault>
     ensures answer { result ≡ answered (scanned file.now) (length index.old) }
     ensures after { index.new ≡ indexed (scanned file.now) index.old }
 {
-    opens(file)?;
-    let room = survey(file)?;
+    let file = Opened::new(file)?;
+    let leaves = file.survey()?;
+    let room = 2 * leaves as usize + 2;
     if room > index.len() {
         return Err(Fault::new(Refusal::ShortBuffer, 1, 0));
     }
-    Ok(fill(file, index))
+    file.fill(index)?;
+    Ok(leaves)
 }

@@ -2,8 +2,9 @@
 ghost use Rattle.dsc.specs.Readers.{meaning_of};
 
 use crate::reader::Dsc;
-use pages::faults::{Fault, Refusal};
-use pages::maps::{Map, Placement, Size};
+use pages::faults::Fault;
+use pages::leaf_pages;
+use pages::maps::{Placement, Size};
 use pages::sources::{Source, write};
 
 impl<'a> Source for Dsc<'a> {
@@ -28,21 +29,11 @@ impl<'a> Source for Dsc<'a> {
     }
 
     fn laid(&self, page: u32) -> Result<u32, Fault> {
-        if page == 0 || page > self.leaves {
-            return Err(Fault::new(Refusal::NoSuch, 1, page));
-        }
-        Ok(1)
+        leaf_pages::laid(self.leaves, page)
     }
 
     fn place(&self, page: u32, slot: u32) -> Result<Placement, Fault> {
-        self.laid(page)?;
-        if slot != 1 {
-            return Err(Fault::new(Refusal::NoSuch, 1, page));
-        }
-        Ok(Placement {
-            leaf: page,
-            map: Map::identity(),
-        })
+        leaf_pages::place(self.leaves, page, slot)
     }
 
     fn length(&self, leaf: u32) -> Result<u32, Fault> {

@@ -2,7 +2,7 @@
 ghost use Rattle.std.specs.Prelude.{◌≡◌};
 ghost use Rattle.dsc.specs.Values.{trim, word_of, past_word, number_of};
 
-use crate::lines::before;
+use text::before;
 
 /// What follows the blanks in front.
 pub(crate) fn trimmed<'a>(s: &'a [u8]) -> &'a [u8]

@@ -5,11 +5,16 @@
 use dsc::Dsc;
 use listing::Listing;
 use pages::faults::Fault;
+use pages::limits::INDEX_NUMBERS;
 use pages::sources::Source;
 use std::{env, fs, io};
 
-/// The numbers that an index has at most: a pair for the preamble and for each of 4,096 pages.
-const NUMBERS: usize = 8194;
+/// How a file is read.
+#[derive(Clone, Copy)]
+enum Format {
+    Dsc,
+    Listing,
+}
 
 fn print_fault(rt: &HostRuntime, name: &str, fault: Fault) -> io::Result<()> {
     let number = u8::from(fault.kind);
@@ -31,8 +36,7 @@ fn print_index(rt: &HostRuntime, index: &[u32], leaves: u32) -> io::Result<()> {
 
 fn print_size<S: Source>(rt: &HostRuntime, source: &S) -> io::Result<()> {
     let size = source.size();
-    let (width, height) = (size.width, size.height);
-    println!(rt; "  size {width} {height}")
+    println!(rt; "  size {size}")
 }
 
 fn print_label(rt: &HostRuntime, label: &[u8]) -> io::Result<()> {
@@ -54,62 +58,70 @@ fn print_labels(rt: &HostRuntime, reader: &Dsc<'_>) -> io::Result<()> {
     Ok(())
 }
 
-fn print_dsc<'a>(rt: &HostRuntime, name: &str, file: &'a [u8], index: &'a [u32]) -> io::Result<()> {
-    let mut reader = Dsc::empty();
-    match reader.load(file, index) {
+/// What loading a file answered and its index, and then what more its reader tells.
+fn print_loaded<F: FnOnce() -> io::Result<()>>(
+    rt: &HostRuntime,
+    name: &str,
+    index: &[u32],
+    loaded: Result<u32, Fault>,
+    print_more: F,
+) -> io::Result<()>
+    requires { F.IsAlwaysCallable print_more }
+{
+    match loaded {
         Ok(leaves) => {
             println!(rt; "{name} ok {leaves}")?;
             print_index(rt, index, leaves)?;
-            print_size(rt, &reader)?;
-            print_labels(rt, &reader)
+            print_more()
         }
         Err(fault) => print_fault(rt, name, fault),
     }
 }
 
-fn print_listing<'a>(
+fn print_reader(
     rt: &HostRuntime,
     name: &str,
-    file: &'a [u8],
-    index: &'a [u32],
+    file: &[u8],
+    index: &[u32],
+    format: Format,
 ) -> io::Result<()> {
-    let mut reader = Listing::empty();
-    match reader.load(file, index) {
-        Ok(leaves) => {
-            println!(rt; "{name} ok {leaves}")?;
-            print_index(rt, index, leaves)
+    match format {
+        Format::Dsc => {
+            let mut reader = Dsc::empty();
+            let loaded = reader.load(file, index);
+            print_loaded(rt, name, index, loaded, || {
+                print_size(rt, &reader)?;
+                print_labels(rt, &reader)
+            })
         }
-        Err(fault) => print_fault(rt, name, fault),
+        Format::Listing => {
+            let mut reader = Listing::empty();
+            let loaded = reader.load(file, index);
+            print_loaded(rt, name, index, loaded, || Ok(()))
+        }
     }
 }
 
-fn try_file(rt: &HostRuntime, name: &str, is_listing: bool) -> io::Result<()> {
+fn try_file(rt: &HostRuntime, name: &str, format: Format) -> io::Result<()> {
     let file = fs::read(rt, name)?;
-    let mut index = vec![in rt.alloc(); 0u32; NUMBERS]?;
-    let scanned = if is_listing {
-        listing::scan(&file, &mut index)
-    } else {
-        dsc::scan(&file, &mut index)
+    let mut index = vec![in rt.alloc(); 0u32; INDEX_NUMBERS]?;
+    let scanned = match format {
+        Format::Dsc => dsc::scan(&file, &mut index),
+        Format::Listing => listing::scan(&file, &mut index),
     };
     match scanned {
-        Ok(_) => {
-            if is_listing {
-                print_listing(rt, name, &file, &index)
-            } else {
-                print_dsc(rt, name, &file, &index)
-            }
-        }
+        Ok(_) => print_reader(rt, name, &file, &index, format),
         Err(fault) => print_fault(rt, name, fault),
     }
 }
 
 fn main(rt: HostRuntime) -> io::Result<()> {
-    let mut is_listing = false;
-    for name in env::args(&rt)?.skip(1) {
-        match name.as_str() {
-            "--dsc" => is_listing = false,
-            "--listing" => is_listing = true,
-            file => try_file(&rt, file, is_listing)?,
+    let mut format = Format::Dsc;
+    for word in env::args(&rt)?.skip(1) {
+        match word.as_str() {
+            "--dsc" => format = Format::Dsc,
+            "--listing" => format = Format::Listing,
+            name => try_file(&rt, name, format)?,
         }
     }
     Ok(())
