@@ -1,10 +1,8 @@
 //! The layer over any source, by any rule.
 
-ghost use Rattle.std.specs.Prelude.{◌≡◌, ◌+◌, ◌<◌, ◌≤◌, min, length, None, MatchOption, MatchResult};
-ghost use Rattle.layers.specs.Layering.{Barred, Exact, FirstCrowded, FirstFar, Near, Roomy, layered, part_follows, part_shown, parts_follow, shown};
+ghost use Rattle.std.specs.Prelude.{◌≡◌, None, MatchResult};
+ghost use Rattle.layers.specs.Layering.{Barred, Exact, layered};
 ghost use Rattle.layers.specs.Orders.{Laid, Refused};
-ghost use Rattle.pages.specs.Limits.{max_placements};
-ghost use Rattle.pages.specs.Meaning.{slot_at};
 ghost use Rattle.layers.specs.Lawful.{lawful_layered};
 
 use crate::extent::Extent;
