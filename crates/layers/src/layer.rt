@@ -138,7 +138,7 @@ impl<S: Source, R: Rule> Source for Layer<S, R> {
     }
 
     fn laid(&self, page: u32) -> Result<u32, Fault> {
-        if page < 1 || self.extent.pages < page {
+        if !(1..=self.extent.pages).contains(&page) {
             return Err(Fault::new(Refusal::NoSuch, self.depth(), page));
         }
         let view = View {
@@ -150,7 +150,7 @@ impl<S: Source, R: Rule> Source for Layer<S, R> {
 
     fn place(&self, page: u32, slot: u32) -> Result<Placement, Fault> {
         let refused = Fault::new(Refusal::NoSuch, self.depth(), page);
-        if page < 1 || self.extent.pages < page {
+        if !(1..=self.extent.pages).contains(&page) {
             return Err(refused);
         }
         if MAX_PLACEMENTS < slot {
