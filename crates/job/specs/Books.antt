@@ -13,6 +13,7 @@ use Rattle.signature.specs.declared.imposition.Imposition.{Imposition}
 use Rattle.sides.specs.Texts.{ending_text, opening_of, parts_text}
 use Rattle.plan.specs.Records.{records_of}
 use Rattle.plan.specs.declared.record.Record.{Record}
+use Rattle.job.specs.declared.job.Job.{Job}
 
 -- the signature by which sides are laid, None before the first order; what the source below means; the size and number
 -- of the sides
@@ -27,6 +28,10 @@ book_of o m x = record { signature = o; below = m; extent = x }
 -- the book of a Signature layer over a source with this meaning
 abbrev pub book_in : {S O : Type 0} → (S → Meaning) → Layer S Imposition O → Book
 book_in meaning l = book_of l.rule.signature (meaning l.below) l.extent
+
+-- the book that a job prints
+abbrev pub job_book : {S : Type 0} → (S → Meaning) → Job S → Book
+job_book meaning j = book_in meaning j.layer
 
 -- what the layer means: its pages are the sides
 abbrev pub sheets : Book → Meaning

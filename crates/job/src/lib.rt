@@ -3,7 +3,7 @@
 
 mod calls;
 mod job;
-mod positions;
 mod questions;
+mod texts;
 
 pub use job::Job;

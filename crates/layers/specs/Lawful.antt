@@ -24,7 +24,7 @@ fits_carried t u h = chosen (fits t && fits u) (fits (followed t u)) refl
 sound_moved : (n : ℕ) (t : Map) (p : Placement) → sound n p ≡ true → sound n (moved t p) ≡ true
 sound_moved n t p h = let f : fits p.map ≡ true = grind arith in let k = fits_carried p.map t f in grind arith
 
-all_sound-moved : (n : ℕ) (t : Map) (ps : List Placement) → all_sound n ps ≡ true → all_sound n (map (moved t) ps) ≡ true
+pub all_sound-moved : (n : ℕ) (t : Map) (ps : List Placement) → all_sound n ps ≡ true → all_sound n (map (moved t) ps) ≡ true
 all_sound-moved n t [] h = refl
 all_sound-moved n t (p ∷ ps) h =
     let a : sound n p ≡ true = grind arith in

@@ -12,7 +12,7 @@ use pages::maps::{Map, Placement};
 use pages::sources::Source;
 
 /// A part of a page: all placements of a page below, in order, each followed by the map.
-#[derive(Clone, Copy)]
+#[derive(Clone, Copy, Default)]
 pub struct Part {
     pub page: u32,
     pub map: Map,

@@ -50,6 +50,15 @@ impl fmt::Display for Size {
     }
 }
 
+/// The map that leaves every point where it is.
+impl Default for Map {
+    ghost is_default = { λ m. m ≡ identity };
+
+    fn default() -> Map {
+        Map::identity()
+    }
+}
+
 fn near(v: i64) -> bool
     ensures { result ≡ near v }
 {

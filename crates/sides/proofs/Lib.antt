@@ -1,5 +1,5 @@
 pub mod Puts
 pub mod Placing
-pub mod Inks
-pub mod Steps
+pub mod Leaves
+pub mod Bounds
 pub mod Showing

@@ -1,5 +1,5 @@
 -- The text of a side shows the placements of its positions.
-use Rattle.std.proofs.Common.{◌≡◌, ℕ, ◌≤◌, Bool, true, false, cond, leb, List, [], ◌∷◌, ◌++◌, map, length, sym, refl, ap, ◌∙◌, arith, length-append}
+use Rattle.std.proofs.Common.{◌≡◌, ℕ, ◌≤◌, true, leb, List, [], ◌∷◌, ◌++◌, map, length, sym, refl, ap, ◌∙◌, arith, length-append}
 use lib.ListN.{length-map}
 use Rattle.std.proofs.lemmas.List.{take_all}
 use Rattle.std.proofs.lemmas.Bool.{cond-true, le-leb}
@@ -9,7 +9,7 @@ use Rattle.pages.specs.Maps.{followed}
 use Rattle.pages.specs.Meaning.{Lawful, Meaning, all_sound, has, size_of}
 use Rattle.pages.specs.declared.maps.Map.{Map}
 use Rattle.pages.specs.declared.maps.Placement.{Placement}
-use Rattle.layers.specs.Layering.{Exact, Parts, all_below, exactly, followed_by, moved, part_exactly, part_shown, shown}
+use Rattle.layers.specs.Layering.{Exact, Parts, all_below, exactly, followed_by, moved, part_exactly, part_shown, placed, shown}
 use Rattle.layers.specs.declared.parts.Part.{Part}
 use Rattle.signature.specs.Imposing.{positions, side_parts, sides_of}
 use Rattle.text.proofs.Joins.{joined-append}
@@ -28,15 +28,12 @@ blocks_exactly m (x ∷ xs) = joined-append (block_of m) (part_exactly m x) (exa
 
 -- ---- a layer that is exact cuts nothing
 
-same_length : (b : Bool) (t : Map) (ps : List Placement) → length (cond b (map (moved t) ps) []) ≡ length (cond b (map (followed_by t) ps) [])
-same_length true t ps = length-map ps (moved t) ∙ sym (length-map ps (followed_by t))
-same_length false t ps = refl
-
 shown-length : (m : Meaning) (xs : Parts) → length (shown m xs) ≡ length (exactly m xs)
 shown-length m [] = refl
 shown-length m (x ∷ xs) =
-    let a = same_length (has m x.page) x.map (m.page x.page) in
-    let b = shown-length m xs in
+    let a = length-map (placed m x.page) (moved x.map) in
+    let b = length-map (placed m x.page) (followed_by x.map) in
+    let c = shown-length m xs in
     omega (arith, length-append (part_shown m x) (shown m xs), length-append (part_exactly m x) (exactly m xs))
 
 shown_exact : (show : ℕ → Parts) (n : ℕ) (m : Meaning) → Exact show n m → (s : ℕ) → 1 ≤ s → s ≤ n → shown m (show s) ≡ exactly m (show s)
@@ -61,7 +58,7 @@ module _ (m : Meaning) (l : Lawful m) where
   part_shown_lem x h =
       let a : 1 ≤ x.page = grind arith in
       let b : x.page ≤ m.pages = grind arith in
-      ap (blocks_of m) (cond-true (has m x.page) (map (followed_by x.map) (m.page x.page)) [] h)
+      ap (λ ps. blocks_of m (map (followed_by x.map) ps)) (cond-true (has m x.page) (m.page x.page) [] h)
       ∙ placements_shown m x.map (m.page x.page) (l.placed x.page a b)
 
   parts_shown : (xs : Parts) → all_below m xs ≡ true → flat_map (λ x. blocks_of m (part_exactly m x)) xs ≡ flat_map (position_text m) xs

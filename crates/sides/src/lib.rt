@@ -2,6 +2,7 @@
 #![tactic(auto)]
 
 mod blocks;
+mod inks;
 mod laws;
 mod positions;
 mod texts;

@@ -1,17 +1,17 @@
 //! The texts of a book: what opens it, each of its sides, and what ends it.
 
-ghost use Rattle.std.specs.Prelude.{◌≡◌, ◌+◌, ◌≤◌, length};
+ghost use Rattle.std.specs.Prelude.{◌≡◌, ◌+◌, ◌≤◌, is_some, length};
 ghost use Rattle.pages.specs.Meaning.{written};
 ghost use Rattle.sides.specs.Puts.{Put};
 ghost use Rattle.sides.specs.Texts.{ending_text, head_text, max_block, opening_of, page_line, parts_text, showpage};
 ghost use Rattle.text.specs.Pieces.{place_after, spelled_all};
 
-use crate::blocks::{ink_length, put_ink};
+use crate::inks::InkSink;
 use crate::positions::put_position;
 use layers::parts::Part;
 use pages::maps::Size;
 use pages::sources::Source;
-use text::{Piece, measure, put};
+use text::{Counter, Lent, Piece, Sink, measure, put, put_pieces};
 
 const SHOWPAGE: &[u8] = b"showpage\n";
 
@@ -31,19 +31,28 @@ fn page_line(side: u32) -> [Piece<'static>; 5]
     ]
 }
 
-// How many bytes that line has.
-fn page_line_length(side: u32) -> usize
-    ensures { (result ≡ length (page_line side)) × (result ≤ 50) }
-{
-    measure(&page_line(side))
-}
-
 /// How many bytes the text of a side has besides its positions.
 pub fn frame_length(side: u32) -> usize
     ensures all { result ≡ length (page_line side) + length showpage }
     ensures few { result ≤ 64 }
 {
-    page_line_length(side) + SHOWPAGE.len()
+    measure(&page_line(side)) + SHOWPAGE.len()
+}
+
+// Gives the text of a side with these positions to a sink.
+fn put_parts<O: InkSink, S: Source>(
+    out: &mut O,
+    below: &S,
+    side: u32,
+    positions: &[Part],
+) -> Option<()>
+    ensures { O.takes out.old (parts_text (S.meaning below.now) side positions.now) (is_some result) out.new }
+{
+    put_pieces(out, &page_line(side))?;
+    for position in positions {
+        put_position(out, below, position)?;
+    }
+    out.take(SHOWPAGE)
 }
 
 /// Writes the text of a side with these positions at the buffer's start, and answers its length. Where it does not fit,
@@ -56,17 +65,9 @@ pub fn put_side<S: Source>(
 ) -> Option<usize>
     ensures { Put buffer.old 0 (parts_text (S.meaning below.now) side positions.now) buffer.new result }
 {
-    let Some(start) = put(buffer, 0, &page_line(side)) else {
-        return None;
-    };
-    let mut end = start;
-    for position in positions {
-        let Some(next) = put_position(below, position, buffer, end) else {
-            return None;
-        };
-        end = next;
-    }
-    put(buffer, end, &[Piece::Bytes(SHOWPAGE)])
+    let mut lent = Lent { buffer, at: 0 };
+    put_parts(&mut lent, below, side, positions)?;
+    Some(lent.at)
 }
 
 // The lines of the opening before the preamble.
@@ -84,11 +85,12 @@ fn head(size: Size, sides: u32) -> [Piece<'static>; 7]
     ]
 }
 
-// Those of a book whose sides are the pages of a source.
-fn head_of<S: Source>(source: &S) -> [Piece<'static>; 7]
-    ensures { spelled_all result ≡ head_text (S.meaning source.now).width (S.meaning source.now).height (S.meaning source.now).pages }
+// Gives the opening of a book whose sides are the pages of a source to a sink.
+fn put_opening<O: InkSink, S: Source>(out: &mut O, source: &S) -> Option<()>
+    ensures { O.takes out.old (opening_of (S.meaning source.now)) (is_some result) out.new }
 {
-    head(source.size(), source.pages())
+    put_pieces(out, &head(source.size(), source.pages()))?;
+    out.take_ink(source, 0)
 }
 
 /// How many bytes the opening of a book has whose sides are the pages of a source.
@@ -96,7 +98,9 @@ pub fn opening_length<S: Source>(source: &S) -> usize
     ensures all { result ≡ length (opening_of (S.meaning source.now)) }
     ensures few { result ≤ max_block }
 {
-    measure(&head_of(source)) + ink_length(source, 0)
+    let mut counter = Counter { count: 0 };
+    put_opening(&mut counter, source);
+    counter.count
 }
 
 /// Writes the opening of a book whose sides are the pages of a source at the buffer's start, and answers its length. An
@@ -108,10 +112,9 @@ pub fn opening<S: Source>(source: &S, buffer: &mut [u8]) -> Option<usize>
     if buffer.len() < opening_length(source) {
         return None;
     }
-    let Some(start) = put(buffer, 0, &head_of(source)) else {
-        return None;
-    };
-    put_ink(source, 0, buffer, start)
+    let mut lent = Lent { buffer, at: 0 };
+    put_opening(&mut lent, source)?;
+    Some(lent.at)
 }
 
 /// How many bytes the ending of a book has.

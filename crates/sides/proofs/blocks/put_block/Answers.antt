@@ -1,32 +1,37 @@
-use Rattle.std.proofs.Common.{◌++◌, Some, None, codes, arith}
-use Rattle.sides.specs.Puts.{Whole}
-use Rattle.sides.specs.Texts.{block, ink_of, line, placing}
-use Rattle.sides.proofs.Puts.{begun_more, put_text, put_then, put_whole, whole_begun, whole_length}
+use Rattle.std.proofs.Common.{◌≡◌, ℕ, List, [], ◌++◌, codes, ap, ◌∙◌, subst, is_some, append_assoc}
+use Rattle.text.specs.Pieces.{spelled_all}
+use Rattle.text.proofs.Taking.{refused}
+use Rattle.sides.specs.Texts.{block, block_of, ink_of, line}
 use Rattle.sides.proofs.blocks.put_block.Given as given
 use Rattle.sides.proofs.blocks.put_block.Goals as goal
-use Rattle.sides.proofs.blocks.put_block.Goals.{In-Some}
+use Rattle.sides.proofs.blocks.put_block.Goals.{After-placing}
 
-placed : (g : given.Over) (c : In-Some g) → Whole c.args.buffer.now c.args.at (placing c.args.placement.map) c.put.new.buffer c.in-Some.placed
-placed g c = put_text _ _ c.args.buffer.now c.args.at c.placing.ensures c.put.new.buffer (Some c.in-Some.placed) c.in-Some.ensures.answer c.in-Some.ensures.after
+abbrev ink : (g : given.Over) → After-placing g → List ℕ
+ink g c = ink_of (g.S.Source.meaning c.args.source.now) c.args.placement.leaf
 
-pub returns-in_default : goal.returns-in_default
+abbrev restore : List ℕ
+restore = line (codes "restore")
+
+whole : (g : given.Over) (c : After-placing g) → spelled_all c.placing.result ++ (ink g c ++ restore) ≡ block_of (g.S.Source.meaning c.args.source.now) c.args.placement
 unfolding block
-returns-in_default g c =
-    let ink = ink_of (g.S.Source.meaning c.args.source.now) c.args.placement.leaf in
-    begun_more (ink ++ line (codes "restore")) (put_text _ _ c.args.buffer.now c.args.at c.placing.ensures c.put.new.buffer None c.in_default.ensures.answer c.in_default.ensures.after)
+whole g c = ap (λ z. z ++ (ink g c ++ restore)) c.placing.ensures
 
-pub put_ink-requires : goal.put_ink-requires
-put_ink-requires g c =
-    let w = placed g (goal.at.put_ink-requires g c).In-Some in
-    omega (arith, w.fits, w.ends, whole_length w)
+pub returns-in_err-put_pieces : goal.returns-in_err-put_pieces
+returns-in_err-put_pieces g c =
+    let laws = g.met.O.Sink in
+    let d = (goal.at.returns-in_err-put_pieces g c).After-placing in
+    refused laws.both laws.short [] (spelled_all c.placing.result) (ink g d ++ restore) _ (whole g d) c.from_residual.ensures (laws.nothing c.args.out.now) c.in_err-put_pieces.ensures
 
-pub returns-in_default-put_ink : goal.returns-in_default-put_ink
-unfolding block
-returns-in_default-put_ink g c =
-    whole_begun (placed g (goal.at.returns-in_default-put_ink g c).In-Some) (begun_more (line (codes "restore")) c.in_default-put_ink.ensures)
+pub returns-in_err-take_ink : goal.returns-in_err-take_ink
+returns-in_err-take_ink g c =
+    let laws = g.met.O.Sink in
+    let d = (goal.at.returns-in_err-take_ink g c).After-placing in
+    refused laws.both laws.short (spelled_all c.placing.result) (ink g d) restore _ (append_assoc (spelled_all c.placing.result) (ink g d) restore ∙ whole g d)
+    c.from_residual-in_err-take_ink.ensures c.in_ok-put_pieces.ensures c.in_err-take_ink.ensures
 
 pub returns : goal.returns
-unfolding block
 returns g c =
-    let last = put_whole (line (codes "restore")) c.put_ink.new.buffer c.in-Some-put_ink.inked c.put-2.new.buffer c.put-2.result c.put-2.ensures.answer c.put-2.ensures.after in
-    put_then _ _ _ (placed g (goal.at.returns g c).In-Some) (put_then _ _ _ c.in-Some-put_ink.ensures last)
+    let laws = g.met.O.Sink in
+    let d = (goal.at.returns g c).After-placing in
+    subst (λ z. g.O.Sink.takes c.args.out.now z (is_some c.take.result) c.take.new.self) (whole g d)
+    (laws.both _ _ _ (spelled_all c.placing.result) (ink g d ++ restore) _ c.in_ok-put_pieces.ensures (laws.both _ _ _ (ink g d) restore _ c.in_ok-take_ink.ensures c.take.ensures))

@@ -1,13 +1,22 @@
-use Rattle.std.proofs.Common.{◌≡◌, ℕ, ◌+◌, max, length, sym, ap, ◌∙◌, add-one}
-use Rattle.job.specs.Books.{Book, book_in, longest, side_printed}
+use Rattle.std.proofs.Common.{◌≡◌, ℕ, zero, suc, ◌+◌, map, max, length, refl, sym, ap, ◌∙◌, ◌∷◌, [], add-one, arith, rules}
+use Rattle.std.specs.List.{fold, range_with_len}
+use Rattle.std.proofs.lemmas.List.FromFn.{map-range_with_len_more}
+use Rattle.std.proofs.lemmas.List.Sums.{fold-append}
+use Rattle.job.specs.Books.{Book, job_book, longest, side_printed, sides}
 use Rattle.job.proofs.job.Job.room.Goals as goal
 
--- one side more
-more : (b : Book) (i most len r : ℕ) → most ≡ longest b i → len ≡ length (side_printed b (i + 1)) → r ≡ max most len → r ≡ longest b (i + 1)
-more b i most len r e f h =
-    h ∙ ap (λ n. max n len) e ∙ ap (max (longest b i)) (f ∙ ap (λ n. length (side_printed b n)) (add-one i)) ∙ ap (longest b) (sym (add-one i))
+longest_is : (b : Book) (n : ℕ) → fold max (longest b zero) (map (λ i. length (side_printed b (i + 1))) (range_with_len 0 n)) ≡ longest b n
+longest_is b zero = refl
+longest_is b (suc n) =
+    let f = λ (i : ℕ). length (side_printed b (i + 1)) in
+    ap (λ j. fold max (longest b zero) (map f (range_with_len 0 j))) (sym (add-one n))
+    ∙ ap (fold max (longest b zero)) (map-range_with_len_more f 0 n n (omega arith))
+    ∙ fold-append max (longest b zero) (map f (range_with_len 0 n)) (f n ∷ [])
+    ∙ ap (λ m. max m (f n)) (longest_is b n)
+    ∙ ap (λ j. max (longest b n) (length (side_printed b j))) (add-one n)
 
-pub loop-i-preserved : goal.loop-i-preserved
-loop-i-preserved g c =
-    more (book_in g.S.Source.meaning c.args.self.now.layer) c.loop-i.i c.loop-i.most c.side_length.result c.max-most-in-loop-i.result
-    c.loop-i.invariant c.side_length.ensures.all c.max-most-in-loop-i.ensures
+pub returns : goal.returns
+returns g c =
+    let b = job_book g.S.Source.meaning c.args.self.now in
+    let e : c.max.result ≡ longest b zero = search rules in
+    c.longest_side.ensures ∙ ap (λ n. fold max n (map (λ i. length (side_printed b (i + 1))) (range_with_len 0 (sides b)))) e ∙ longest_is b (sides b)
