@@ -1,10 +1,8 @@
 //! The layer over any source, by any rule.
 
-ghost use Rattle.std.specs.Prelude.{◌≡◌, ◌+◌, ◌<◌, ◌≤◌, min, length, None, MatchOption, MatchResult};
-ghost use Rattle.layers.specs.Layering.{Barred, Exact, FirstCrowded, FirstFar, Near, Roomy, layered, part_follows, part_shown, parts_follow, shown};
+ghost use Rattle.std.specs.Prelude.{◌≡◌, None, MatchResult};
+ghost use Rattle.layers.specs.Layering.{Barred, Exact, layered};
 ghost use Rattle.layers.specs.Orders.{Laid, Refused};
-ghost use Rattle.pages.specs.Limits.{max_placements};
-ghost use Rattle.pages.specs.Meaning.{slot_at};
 ghost use Rattle.layers.specs.Lawful.{lawful_layered};
 
 use crate::extent::Extent;
@@ -140,7 +138,7 @@ impl<S: Source, R: Rule> Source for Layer<S, R> {
     }
 
     fn laid(&self, page: u32) -> Result<u32, Fault> {
-        if page < 1 || self.extent.pages < page {
+        if !(1..=self.extent.pages).contains(&page) {
             return Err(Fault::new(Refusal::NoSuch, self.depth(), page));
         }
         let view = View {
@@ -152,7 +150,7 @@ impl<S: Source, R: Rule> Source for Layer<S, R> {
 
     fn place(&self, page: u32, slot: u32) -> Result<Placement, Fault> {
         let refused = Fault::new(Refusal::NoSuch, self.depth(), page);
-        if page < 1 || self.extent.pages < page {
+        if !(1..=self.extent.pages).contains(&page) {
             return Err(refused);
         }
         if MAX_PLACEMENTS < slot {
