@@ -40,7 +40,9 @@ pub fn print_sheets(rt: &impl Print, signature: &Signature) -> io::Result<()> {
 pub fn print_plan(rt: &impl Print, signature: &Signature) -> io::Result<()> {
     for sheet in 1..=signature.sheets() {
         for side in Side::BOTH {
-            for (Position { row, column, .. }, Cell { page, mark }) in signature.shown(sheet, side) {
+            for (Position { row, column, .. }, Cell { page, mark }) in signature.shown(
+                sheet, side,
+            ) {
                 let (side, mark) = (u32::from(side), u32::from(mark));
                 println!(rt; "1 {sheet} {side} {row} {column} {page} {mark}")?;
             }

@@ -1,4 +1,4 @@
-use Rattle.std.proofs.Common.{◌*◌, ap, arith}
+use Rattle.std.proofs.Common.{arith}
 use Rattle.std.proofs.lemmas.Nat.{mul-le}
 use Rattle.signature.proofs.Grids.{takes}
 use Rattle.plan.proofs.records.pages_of.Goals as goal
@@ -9,11 +9,8 @@ overflow_mul-result c =
     let h = c.requires in
     omega (arith, mul-le c.args.signatures c.pages.result 4096 512 (omega arith) (omega (arith, c.pages.ensures)))
 
-pub returns : goal.returns
-returns c =
+pub returns-clause-few : goal.returns-clause-few
+returns-clause-few c =
     let most = (takes c.args.signature.now).most in
     let h = c.requires in
-    record {
-      all = ap (λ z. c.args.signatures * z) c.pages.ensures;
-      few = mul-le c.args.signatures c.pages.result 4096 512 (omega arith) (omega (arith, c.pages.ensures));
-    }
+    mul-le c.args.signatures c.pages.result 4096 512 (omega arith) (omega (arith, c.pages.ensures))

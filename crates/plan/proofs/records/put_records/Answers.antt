@@ -1,10 +1,8 @@
-use Rattle.std.proofs.Common.{◌≡◌, ◌+◌, ◌-◌, ◌&&◌, ltb, length, take, drop, map, sym, ap, ◌∙◌, arith}
-use Rattle.std.specs.List.{range_with_len}
+use Rattle.std.proofs.Common.{◌≡◌, ◌+◌, ◌-◌, ◌&&◌, ltb, length, take, drop, sym, ◌∙◌, arith}
 use Rattle.std.proofs.lemmas.Bool.{and_from, cond-true, le-leb}
 use Rattle.std.proofs.lemmas.List.{length-take-le, length-drop}
 use Rattle.fold.specs.Signatures.{letters_of}
 use Rattle.fold.specs.Words.{cells}
-use Rattle.pages.specs.Splice.{splice}
 use Rattle.text.proofs.Splices.{put_mid_lem}
 use Rattle.plan.specs.Records.{fits_at, is_side, record_at, records_of}
 use Rattle.plan.proofs.Plans.{length-records}

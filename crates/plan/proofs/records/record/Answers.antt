@@ -1,18 +1,9 @@
-use Rattle.std.proofs.Common.{◌-◌, ◌/◌, sym, ◌∙◌, div-le_self, arith}
+use Rattle.std.proofs.Common.{◌-◌, ◌/◌, arith}
 use Rattle.std.proofs.lemmas.Nat.{mod_below}
 use Rattle.fold.specs.Signatures.{letters_of}
-use Rattle.fold.proofs.Places.{within}
-use Rattle.pages.specs.Limits.{max_pages}
 use Rattle.signature.proofs.Grids.{takes}
 use Rattle.signature.proofs.Positions.{cell_page}
 use Rattle.plan.proofs.records.record.Goals as goal
-
-pub pages_of-requires : goal.pages_of-requires
-pages_of-requires c =
-    let h = within max_pages c.args.side (sym c.is_side.ensures ∙ c.if-not-is_side.false) in
-    let k = c.args.signature.now.thickness in
-    let e = c.sheets-sheets.ensures in
-    omega (arith, div-le_self ((c.args.side - 1) / 2) c.sheets-sheets.result, mod_below ((c.args.side - 1) / 2) c.sheets-sheets.result (omega arith))
 
 pub overflow_add-result-2 : goal.overflow_add-result-2
 overflow_add-result-2 c =
