@@ -3,7 +3,6 @@ use Rattle.std.proofs.Common.{◌≡◌, ℕ, zero, suc, ◌+◌, ◌-◌, ◌*�
 use Rattle.std.specs.List.{slice_get, range_with_len}
 use Rattle.std.proofs.lemmas.Nat.{mod_below}
 use Rattle.std.proofs.lemmas.List.FromFn.{length-map-range_with_len}
-use Rattle.std.proofs.lemmas.Option.{slice_get_past}
 use Rattle.std.proofs.lemmas.Bool.{cond_both, cond-true, le-leb}
 use Rattle.fold.specs.Folding.{page_count}
 use Rattle.fold.specs.Walk.{laid, shows, walk, start, step, across, odd, cell_at, has, from_1_to}
@@ -35,9 +34,6 @@ nth_counted f a (suc n) (suc i) j h e = nth_counted f (a + 1) n i j (omega arith
 
 pub count_is : (u : Letters) (k : ℕ) (z : Size) (p n : ℕ) → n ≡ cells u → n ≡ length (positions u k z p)
 count_is u k z p n e = e ∙ sym (length-map-range_with_len (position_at u k z p) 0 (cells u))
-
-pub position_past : (u : Letters) (k : ℕ) (z : Size) (p n x : ℕ) → n ≡ cells u → n ≤ x → None ≡ slice_get (positions u k z p) x
-position_past u k z p n x e h = sym (slice_get_past (positions u k z p) x (omega (arith, count_is u k z p n e)))
 
 -- a position that the signature has
 got : (b : Bool) (x y : Cell) → Some x ≡ cond b (Some y) None → x ≡ y
@@ -97,18 +93,33 @@ cell_page u k at cell a b e =
 
 -- ---- what stands at an index
 
-pub position_is : (u : Letters) (k : ℕ) (size : Size) (p x r c j n : ℕ) (at : Position) (cell : Cell) (q : Map) →
-    x < r * c → r ≡ rows_of u → c ≡ columns_of u → j ≡ k → at ≡ spot_at c j p x → n ≡ pages_before u k p → Some cell ≡ cell_at u k at →
-    q ≡ position_map size r at.row at.column cell.mark →
+pub position_is : (u : Letters) (k : ℕ) (size : Size) (p x n : ℕ) (at : Position) (cell : Cell) (q : Map) →
+    x < cells u → at ≡ spot_at (columns_of u) k p x → n ≡ pages_before u k p → Some cell ≡ cell_at u k at →
+    q ≡ position_map size (rows_of u) at.row at.column cell.mark →
     Some (record { page = n + cell.page; map = q }) ≡ slice_get (positions u k size p) x
-position_is u k size p x r c j n at cell q l a b d e f g o =
-    let l : x < cells u = subst (λ (n : ℕ). x < n) (ap (λ (n : ℕ). n * c) a ∙ ap (λ (n : ℕ). rows_of u * n) b) l in
+position_is u k size p x n at cell q l e f g o =
     let h = nth_counted (position_at u k size p) 0 (cells u) x x l (omega arith) in
-    let s : at ≡ spot_at (columns_of u) k p x = e ∙ ap (λ (n : ℕ). spot_at n j p x) b ∙ ap (λ (n : ℕ). spot_at (columns_of u) n p x) d in
-    let w = got (has u k at) cell (laid u k at.sheet at.side at.row at.column) g ∙ ap (λ (y : Position). laid u k y.sheet y.side y.row y.column) s in
-    let m : q ≡ position_map size (rows_of u) (x / columns_of u + 1) (x % columns_of u + 1) cell.mark =
-    o ∙ ap (λ (n : ℕ). position_map size n at.row at.column cell.mark) a ∙ ap (λ (y : Position). position_map size (rows_of u) y.row y.column cell.mark) s in
+    let w = got (has u k at) cell (laid u k at.sheet at.side at.row at.column) g ∙ ap (λ (y : Position). laid u k y.sheet y.side y.row y.column) e in
+    let m : q ≡ position_map size (rows_of u) (x / columns_of u + 1) (x % columns_of u + 1) cell.mark = o ∙ ap (λ (y : Position). position_map size (rows_of u) y.row y.column cell.mark) e in
     cc
+
+-- the position at an index is one of the signature's
+pub record Stands (u : Letters) (k : ℕ) (at : Position) : Type 0 where
+  pub sheet : (1 ≤ at.sheet) × (at.sheet ≤ k)
+  pub cell : None ≡ cell_at u k at → ⊥
+
+pub spot_stands : (s : Signature) (p x : ℕ) (at : Position) → x < cells (letters_of s) → at ≡ spot_at (columns_of (letters_of s)) s.sheets p x → Stands (letters_of s) s.sheets at
+spot_stands s p x at l e =
+    let u = letters_of s in
+    let q = grid s in
+    let k = s.thickness in
+    let a = row_below (rows_of u) (columns_of u) x q.wide.0 l in
+    let b = column_below (columns_of u) x q.wide.0 in
+    let f = mod_below (sheets_before p) s.sheets (omega arith) in
+    subst (Stands u s.sheets) (sym e) (record {
+      sheet = (omega arith, omega arith);
+      cell = no_cell u s.sheets (spot_at (columns_of u) s.sheets p x) (omega arith) (omega arith) (omega arith) (omega arith) (omega arith) (omega arith);
+    })
 
 -- ---- the sides that there are
 
