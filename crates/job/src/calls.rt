@@ -93,10 +93,10 @@ impl<S: Source> Job<S> {
     pub fn plan_length(&self) -> usize
         ensures { result ≡ sides (job_book S.meaning self.now) * per_side (job_book S.meaning self.now) }
     {
-        self.layer
-            .rule()
-            .signature()
-            .map_or(0, |signature| self.layer.pages() as usize * signature.cells() as usize)
+        self.layer.rule().signature().map_or(
+            0,
+            |signature| self.layer.pages() as usize * signature.cells() as usize,
+        )
     }
 
     // How many bytes the text of a side has.

@@ -31,6 +31,7 @@ impl SideText {
     {
         let rule = layer.rule();
         let below = layer.covered();
+        // A rule gives its parts by their index alone.
         let mut positions = ArrayVec::new();
         for index in 0..rule.count(below, side) {
             positions.push(rule.part(below, side, index).unwrap());

@@ -1,7 +1,6 @@
 -- No text of a position is longer than its bound.
 use Rattle.std.proofs.Common.{◌≡◌, ℕ, ◌*◌, ◌^◌, ◌<◌, ◌≤◌, Bool, true, false, cond, refl, List, [], ◌∷◌, length, ℤ, pos, negsuc, neg_ℤ, ◌≤ℤ◌, arith, length-append, w64, SFits}
 use Rattle.std.proofs.lemmas.Int.{ints}
-use Rattle.std.proofs.lemmas.List.{length-map}
 use Rattle.pages.specs.Limits.{max_vector}
 use Rattle.pages.specs.Maps.{near}
 use Rattle.pages.proofs.Scaling.{fit}

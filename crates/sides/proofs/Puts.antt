@@ -1,6 +1,6 @@
 -- What a lent buffer holds after a text.
-use Rattle.std.proofs.Common.{◌≡◌, ℕ, ◌+◌, ◌^◌, ◌<◌, ◌≤◌, Bool, true, false, leb, List, length, Some, None, Option, is_some, sym, ap, subst, arith}
-use Rattle.std.proofs.lemmas.Bool.{cond-false, cond-true, le-leb, lt-leb}
+use Rattle.std.proofs.Common.{◌≡◌, ℕ, ◌+◌, ◌^◌, ◌<◌, Bool, true, false, leb, List, length, None, Option, is_some, sym, ap, subst, arith}
+use Rattle.std.proofs.lemmas.Bool.{cond-false, lt-leb}
 use Rattle.pages.specs.Meaning.{written}
 use Rattle.text.specs.Pieces.{place_after}
 use Rattle.text.specs.Sinks as sink

@@ -1,4 +1,4 @@
-use Rattle.std.proofs.Common.{◌≡◌, ℕ, List, [], ◌++◌, codes, sym, ap, ◌∙◌, subst, is_some, append_assoc}
+use Rattle.std.proofs.Common.{◌≡◌, ℕ, List, [], ◌++◌, codes, ap, ◌∙◌, subst, is_some, append_assoc}
 use Rattle.text.specs.Pieces.{spelled_all}
 use Rattle.text.proofs.Taking.{refused}
 use Rattle.sides.specs.Texts.{block, block_of, ink_of, line}

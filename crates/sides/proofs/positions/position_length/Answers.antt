@@ -1,5 +1,4 @@
 use Rattle.std.proofs.Common.{◌≡◌, length, refl, arith}
-use Rattle.std.specs.Option.{is_some}
 use Rattle.sides.specs.Texts.{part_text}
 use Rattle.sides.proofs.Bounds.{position_short}
 use Rattle.sides.proofs.Puts.{counted}

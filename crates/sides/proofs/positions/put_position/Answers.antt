@@ -12,6 +12,6 @@ loop-placement-preserved g c =
       xs ++ block_of m c.moved.result,
       g.met.O.Sink.both _ _ _ xs (block_of m c.moved.result) _ c.loop-placement.invariant.1 c.in_ok-put_block.ensures,
       append_assoc xs (block_of m c.moved.result) (rest c.next.new.self)
-      ∙ ap (λ (z : List ℕ). xs ++ z) (ap (λ (p : Placement). block_of m p ++ rest c.next.new.self) c.moved.ensures ∙ sym (ap rest c.in-Some.ensures.steps))
-      ∙ c.loop-placement.invariant.2,
+          ∙ ap (λ (z : List ℕ). xs ++ z) (ap (λ (p : Placement). block_of m p ++ rest c.next.new.self) c.moved.ensures ∙ sym (ap rest c.in-Some.ensures.steps))
+          ∙ c.loop-placement.invariant.2,
     )

@@ -1,6 +1,5 @@
-use Rattle.std.proofs.Common.{◌≡◌, ◌≤◌, length, refl, ap, arith, length-append}
+use Rattle.std.proofs.Common.{◌≡◌, ◌≤◌, length, refl, arith, length-append}
 use Rattle.sides.specs.Texts.{head_text, opening_of}
-use Rattle.sides.proofs.Leaves.{ink_is, ink_short}
 use Rattle.sides.proofs.Placing.{head_short}
 use Rattle.sides.proofs.Puts.{counted}
 use Rattle.sides.proofs.texts.opening_length.Goals as goal
