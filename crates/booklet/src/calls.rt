@@ -10,7 +10,6 @@ use books::output::Output;
 use fold::{Signature, Word};
 use pages::limits::MAX_INK;
 use pages::sources::Source;
-use plan::records::positions;
 use runs::calls::Call;
 use runs::log::Entry;
 use signature::imposition::Scheme;
@@ -86,7 +85,7 @@ fn room(call: &Call) -> usize {
 /// How many records the sides that stand printed have; None where the order makes no signature.
 fn records_of(order: Scheme, printed: u32) -> Option<usize> {
     let signature = Signature::new(Word::scheme(order.number)?, order.sheets)?;
-    Some((printed as usize).saturating_mul(positions(&signature) as usize))
+    Some((printed as usize).saturating_mul(signature.cells() as usize))
 }
 
 fn print_answers(rt: &HostRuntime, entries: &[Entry]) -> io::Result<()> {

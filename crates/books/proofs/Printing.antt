@@ -4,9 +4,8 @@ use Rattle.std.proofs.lemmas.List.FromFn.{map-range_with_len_more}
 use Rattle.std.proofs.lemmas.List.{append_assoc, append-nil, flat_map_more, length_push, map-id, replicate_more, same_from_push, take_all}
 use Rattle.std.proofs.lemmas.Bool.{cond-false, cond-true, le-leb, le-ltb, lt-leb}
 use Rattle.std.specs.List.{range_with_len, flat_map}
-use Rattle.fold.specs.Words.{Letters, scheme}
+use Rattle.fold.specs.Words.{Letters, cells, scheme}
 use Rattle.pages.specs.Meaning.{Meaning}
-use Rattle.signature.specs.Imposing.{cells}
 use Rattle.signature.specs.declared.imposition.Scheme.{Scheme}
 use Rattle.sides.specs.Texts.{ending_text, side_text}
 use Rattle.plan.specs.Records.{plan_to}

@@ -2,11 +2,11 @@
 use Rattle.std.proofs.Common.{◌≡◌, ℕ, zero, suc, ◌*◌, ◌<◌, ◌≤◌, List, length, Some, Option, sym, ap, ◌∙◌, subst, ⊎_elim, arith}
 use Rattle.std.proofs.lemmas.Bool.{cases_lt}
 use Rattle.fold.specs.Signatures.{letters_of}
-use Rattle.fold.specs.Words.{Letters}
+use Rattle.fold.specs.Words.{Letters, cells}
 use Rattle.fold.specs.declared.signature.Signature.{Signature}
 use Rattle.pages.specs.Meaning.{Lawful, Meaning}
 use Rattle.layers.specs.declared.extent.Extent.{Extent}
-use Rattle.signature.specs.Imposing.{cells, sides_of}
+use Rattle.signature.specs.Imposing.{sides_of}
 use Rattle.signature.specs.declared.imposition.Imposition.{Imposition}
 use Rattle.signature.specs.declared.imposition.Scheme.{Scheme}
 use Rattle.sides.specs.Texts.{ending_text, opening_of, side_text}

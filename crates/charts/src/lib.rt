@@ -2,23 +2,7 @@
 #![tactic(auto)]
 
 use fold::{Cell, Mark, Position, Side, Signature};
-use std::{fmt, io};
-
-/// A fold word by its letters.
-#[derive(Drop)]
-struct Letters(fold::Word);
-
-impl fmt::Display for Letters {
-    fn fmt<W: fmt::Write>(&self, f: &mut fmt::Formatter<W>) -> fmt::Result {
-        for index in 0..4 {
-            if let Some(letter) = self.0.letter(index) {
-                let c = letter.to_char();
-                write!(f, "{c}")?;
-            }
-        }
-        Ok(())
-    }
-}
+use std::io;
 
 fn side_name(side: Side) -> &'static str {
     match side {
@@ -63,11 +47,11 @@ fn print_side(rt: &impl Print, signature: &Signature, sheet: u32, side: Side) ->
 
 /// The sheets of a signature, side one and side two of each as rows of pages.
 pub fn print_sheets(rt: &impl Print, signature: &Signature) -> io::Result<()> {
-    let letters = Letters(signature.word());
+    let word = signature.word();
     let sheets = signature.sheets();
     let pages = signature.pages();
     println!(rt;
-        "fold word {letters}, sheets {sheets}, pages {pages}; * marks a page printed head down"
+        "fold word {word}, sheets {sheets}, pages {pages}; * marks a page printed head down"
     )?;
     for sheet in 1..=sheets {
         println!(rt; "sheet {sheet}")?;
@@ -84,7 +68,7 @@ fn print_side_plan(
     sheet: u32,
     side: Side,
 ) -> io::Result<()> {
-    let side_number = side.number();
+    let side_number = u32::from(side);
     for row in 1..=signature.rows() {
         for column in 1..=signature.columns() {
             if let Some(Cell { page, mark }) = signature.cell(Position {
@@ -93,7 +77,7 @@ fn print_side_plan(
                 row,
                 column,
             }) {
-                let mark_number = mark.number();
+                let mark_number = u32::from(mark);
                 println!(rt; "1 {sheet} {side_number} {row} {column} {page} {mark_number}")?;
             }
         }

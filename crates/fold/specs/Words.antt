@@ -1,5 +1,5 @@
 -- Fold words as lists of letters, the masks and characters that stand for them, and the schemes.
-use Rattle.std.specs.Prelude.{ℕ, zero, suc, ◌/◌, ◌%◌, ◌^◌, cond, List, [], ◌∷◌, Some, None, Option, ◌==◌}
+use Rattle.std.specs.Prelude.{ℕ, zero, suc, ◌*◌, ◌/◌, ◌%◌, ◌^◌, cond, List, [], ◌∷◌, Some, None, Option, ◌==◌}
 use Rattle.fold.specs.declared.letters.Letter.{Letter}
 use Rattle.fold.specs.declared.letters.Letter.TheVariants.{W, N}
 
@@ -25,6 +25,10 @@ columns_of w = 2 ^ count_w w
 abbrev pub rows_of : Letters → ℕ
 rows_of w = 2 ^ count_n w
 
+-- The cells of that grid.
+abbrev pub cells : Letters → ℕ
+cells w = rows_of w * columns_of w
+
 -- A mask has a digit for each letter, the first letter's lowest.
 abbrev pub digit_of : Letter → ℕ
 digit_of W = 0
@@ -43,9 +47,6 @@ letters (suc n) mask = of_digit (mask % 2) ∷ letters n (mask / 2)
 abbrev pub code : Letter → ℕ
 code W = 87
 code N = 78
-
-abbrev pub letter_of : ℕ → Option Letter
-letter_of c = cond (c == code W) (Some W) (cond (c == code N) (Some N) None)
 
 -- The schemes, by their numbers; no other number is one.
 abbrev pub scheme : ℕ → Option Letters

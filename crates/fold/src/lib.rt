@@ -11,8 +11,8 @@ mod theorems;
 mod walk;
 mod word;
 
-pub use letters::Letter;
+pub use letters::{Letter, Letters, UnknownLetter};
 pub use sheets::{Cell, Mark, Position, Side};
 pub use signature::Signature;
 pub use theorems::{folding_reads_in_order, worked_sheets};
-pub use word::Word;
+pub use word::{NotAWord, Word};

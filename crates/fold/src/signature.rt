@@ -5,7 +5,7 @@ use crate::word::Word;
 mod methods;
 
 /// A signature: one to sixteen sheets that are stacked and folded by a word.
-#[derive(Clone, Copy)]
+#[derive(Clone, Copy, PartialEq, Eq, Debug)]
 pub struct Signature {
     word: Word,
     sheets: u32,

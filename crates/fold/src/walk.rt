@@ -1,4 +1,4 @@
-ghost use Rattle.std.specs.Prelude.{◌≡◌, ◌≤◌};
+ghost use Rattle.std.specs.Prelude.{◌≡◌, ◌+◌, ◌-◌, ◌/◌, ◌≤◌, cond, nat_le};
 ghost use Rattle.fold.specs.Walk.{Small, shows, step};
 
 use crate::letters::Letter;
@@ -21,39 +21,42 @@ pub struct CellState {
     pub(crate) tumbles: u32,
 }
 
+/// Folds a line of so many cells into half as many, and answers whether the cell at a place was turned over.
+fn halve(cells: &mut u32, place: &mut u32) -> bool
+    ensures turned { result ≡ nat_le place.old (cells.old / 2) }
+    ensures half { cells.new ≡ cells.old / 2 }
+    ensures moved { place.new ≡ cond (nat_le place.old (cells.old / 2)) (cells.old / 2 + 1 - place.old) (place.old - cells.old / 2) }
+{
+    *cells /= 2;
+    let half = *cells;
+    let turned = *place <= half;
+    *place = if turned {
+        half + 1 - *place
+    } else {
+        *place - half
+    };
+    turned
+}
+
 impl CellState {
-    /// One letter: a cell in the first half is turned over onto the other half.
+    /// One letter: a cell in the first half of the columns (W) or of the rows (N) is turned over onto the other half.
     pub(crate) fn take(self, letter: Letter) -> CellState
         requires { Small self }
         ensures { result ≡ step letter self }
     {
         let mut cell = self;
-        match letter {
-            Letter::W => {
-                let half = cell.columns / 2;
-                if cell.column <= half {
-                    cell.column = half + 1 - cell.column;
-                    cell.depth = cell.height + 1 - cell.depth;
-                    cell.turns += 1;
-                } else {
-                    cell.column -= half;
-                    cell.depth += cell.height;
-                }
-                cell.columns = half;
+        let turned = match letter {
+            Letter::W => halve(&mut cell.columns, &mut cell.column),
+            Letter::N => halve(&mut cell.rows, &mut cell.row),
+        };
+        if turned {
+            cell.depth = cell.height + 1 - cell.depth;
+            cell.turns += 1;
+            if letter == Letter::N {
+                cell.tumbles += 1;
             }
-            Letter::N => {
-                let half = cell.rows / 2;
-                if cell.row <= half {
-                    cell.row = half + 1 - cell.row;
-                    cell.depth = cell.height + 1 - cell.depth;
-                    cell.turns += 1;
-                    cell.tumbles += 1;
-                } else {
-                    cell.row -= half;
-                    cell.depth += cell.height;
-                }
-                cell.rows = half;
-            }
+        } else {
+            cell.depth += cell.height;
         }
         cell.height *= 2;
         cell
@@ -66,9 +69,9 @@ impl CellState {
     {
         let last = 2 * self.depth;
         let over = self.turns % 2 == 1;
-        let page = match side {
-            Side::Two => { if over { last } else { last - 1 } }
-            Side::One => { if over { last - 1 } else { last } }
+        let page = match (side, over) {
+            (Side::Two, false) | (Side::One, true) => last - 1,
+            (Side::Two, true) | (Side::One, false) => last,
         };
         let mark = if self.tumbles % 2 == 1 {
             Mark::Turned

@@ -3,11 +3,11 @@ use Rattle.std.proofs.Common.{◌≡◌, ℕ, zero, suc, ◌+◌, ◌<◌, ◌�
 use Rattle.std.specs.List.{slice_get}
 use Rattle.std.proofs.lemmas.List.{take_more_set}
 use Rattle.fold.specs.Signatures.{letters_of}
-use Rattle.fold.specs.Words.{columns_of, rows_of}
+use Rattle.fold.specs.Words.{cells, columns_of, rows_of}
 use Rattle.fold.specs.declared.signature.Signature.{Signature}
 use Rattle.pages.specs.Meaning.{Meaning, size_of}
 use Rattle.layers.specs.Layering.{Parts}
-use Rattle.signature.specs.Imposing.{cells, impose_shows, positions, sides_of}
+use Rattle.signature.specs.Imposing.{impose_shows, positions, sides_of}
 use Rattle.signature.proofs.Grids.{grid_at}
 use Rattle.signature.proofs.Positions.{count_is}
 

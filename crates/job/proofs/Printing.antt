@@ -11,7 +11,7 @@ use Rattle.pages.specs.declared.faults.Refusal.TheVariants.{Finished, ShortBuffe
 use Rattle.layers.specs.Layering.{Parts}
 use Rattle.layers.specs.declared.extent.Extent.{Extent}
 use Rattle.layers.specs.declared.parts.Part.{Part}
-use Rattle.signature.specs.Imposing.{cells}
+use Rattle.fold.specs.Words.{cells}
 use Rattle.sides.specs.Texts.{page_line, part_text, parts_text, showpage}
 use Rattle.job.specs.Books.{Book, book_of, per_side, per_under, side_printed, sides, sides_under}
 use Rattle.job.specs.Calls.{print_refusal}

@@ -7,7 +7,8 @@ use Rattle.pages.specs.Meaning.{Meaning}
 use Rattle.layers.specs.Layering.{layered}
 use Rattle.layers.specs.declared.extent.Extent.{Extent}
 use Rattle.layers.specs.declared.layer.Layer.{Layer}
-use Rattle.signature.specs.Imposing.{cells, impose_shows}
+use Rattle.fold.specs.Words.{cells}
+use Rattle.signature.specs.Imposing.{impose_shows}
 use Rattle.signature.specs.declared.imposition.Imposition.{Imposition}
 use Rattle.sides.specs.Texts.{ending_text, opening_of, parts_text}
 use Rattle.plan.specs.Records.{records_of}

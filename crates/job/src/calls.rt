@@ -16,7 +16,7 @@ use pages::faults::{Fault, Refusal};
 use pages::maps::Map;
 use pages::sources::Source;
 use plan::record::Record;
-use plan::records::{positions, put_records, record};
+use plan::records::{put_records, record};
 use sides::{ending_length, frame_length, opening_length, position_length, put_side};
 
 // What a list of positions holds before they are taken into it.
@@ -35,7 +35,7 @@ const NOWHERE: Part = Part {
 fn shown(entry: Record) -> Cell
     ensures { result ≡ shown_by entry }
 {
-    let mark = if entry.mark == Mark::Turned.number() {
+    let mark = if entry.mark == u32::from(Mark::Turned) {
         Mark::Turned
     } else {
         Mark::Upright
@@ -84,7 +84,7 @@ impl<S: Source> Job<S> {
         if room < self.side_length(side) {
             return Some(Refusal::ShortBuffer);
         }
-        if list < side as usize * positions(&signature) as usize {
+        if list < side as usize * signature.cells() as usize {
             return Some(Refusal::ShortPlan);
         }
         None
@@ -106,7 +106,7 @@ impl<S: Source> Job<S> {
         let Some(end) = put_side(self.layer.covered(), side, &places[0..count], buffer) else {
             unreachable();
         };
-        let per = positions(&signature) as usize;
+        let per = signature.cells() as usize;
         let Some(_) = put_records(&signature, side, plan, self.printed as usize * per) else {
             unreachable();
         };
@@ -128,7 +128,7 @@ impl<S: Source> Job<S> {
         ensures { result ≡ sides (book_in S.meaning self.now.layer) * per_side (book_in S.meaning self.now.layer) }
     {
         match self.layer.rule().signature() {
-            Some(signature) => self.layer.pages() as usize * positions(&signature) as usize,
+            Some(signature) => self.layer.pages() as usize * signature.cells() as usize,
             None => 0,
         }
     }

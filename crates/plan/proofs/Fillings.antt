@@ -4,16 +4,16 @@ use Rattle.std.proofs.lemmas.Nat.{div-add-mod', div-mul-add, mod-mul-add, mul-ad
 use Rattle.std.proofs.lemmas.List.{take-append-drop}
 use Rattle.std.proofs.lemmas.Bool.{cases_eq, eqb-true, eq-eqb, and_parts, and_from}
 use Rattle.fold.specs.Folding.{page_count, read, named}
-use Rattle.fold.specs.Sheets.{side_number, mark_number}
+use Rattle.fold.specs.Sheets.{mark_number, side_number, side_of}
 use Rattle.fold.specs.Walk.{laid}
-use Rattle.fold.specs.Words.{Letters, columns_of, rows_of}
+use Rattle.fold.specs.Words.{Letters, cells, columns_of, rows_of}
 use Rattle.fold.specs.declared.sheets.Mark.{Mark}
 use Rattle.fold.specs.declared.sheets.Mark.TheVariants.{Upright, Turned}
 use Rattle.fold.specs.declared.sheets.Side.{Side}
 use Rattle.fold.specs.declared.sheets.Side.TheVariants.{One, Two}
 use Rattle.fold.proofs.Order.{folds_in_order}
 use Rattle.pages.specs.declared.maps.Size.{Size}
-use Rattle.signature.specs.Imposing.{cells, position_map, sheet_of, side_of, signatures_before}
+use Rattle.signature.specs.Imposing.{position_map, sheet_of, signatures_before}
 use Rattle.signature.specs.Laws.{mark_of, side_number as sideAt}
 use Rattle.signature.proofs.Sides.{side_of_lem, signature_of, sheet_of_lem, numbered}
 use Rattle.plan.specs.Folds.{lies, first, mark_numbered, cell_of, filled, Planned, PlansFold}

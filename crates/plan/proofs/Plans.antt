@@ -3,10 +3,9 @@ use Rattle.std.proofs.Common.{◌≡◌, ℕ, zero, suc, ◌+◌, ◌*◌, ◌�
 use Rattle.std.proofs.lemmas.List.{take-append-le, take_all, take-take}
 use Rattle.std.proofs.lemmas.List.FromFn.{length-map-range_with_len}
 use Rattle.std.proofs.lemmas.Bool.{cases_eq}
-use Rattle.fold.specs.Words.{Letters}
+use Rattle.fold.specs.Words.{Letters, cells}
 use Rattle.pages.specs.Splice.{splice}
 use Rattle.text.proofs.Splices.{take-splice}
-use Rattle.signature.specs.Imposing.{cells}
 use Rattle.plan.specs.Folds.{Planned}
 use Rattle.plan.specs.Records.{record_at, records_of, plan_to}
 use Rattle.plan.specs.declared.record.Record.{Record}

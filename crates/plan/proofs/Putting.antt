@@ -5,9 +5,8 @@ use Rattle.std.proofs.lemmas.List.FromFn.{map-range_with_len_more}
 use Rattle.std.proofs.lemmas.Bool.{and_from, lt-ltb}
 use Rattle.fold.specs.Signatures.{letters_of}
 use Rattle.fold.specs.Walk.{from_1_to}
-use Rattle.fold.specs.Words.{columns_of, rows_of}
+use Rattle.fold.specs.Words.{cells, columns_of, rows_of}
 use Rattle.fold.specs.declared.signature.Signature.{Signature}
-use Rattle.signature.specs.Imposing.{cells}
 use Rattle.signature.proofs.Grids.{grid_at, row_below, column_below}
 use Rattle.signature.proofs.Positions.{within}
 use Rattle.text.specs.Writes.{Wrote}

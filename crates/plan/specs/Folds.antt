@@ -3,12 +3,11 @@ use Rattle.std.specs.Prelude.{◌≡◌, ℕ, ◌+◌, ◌-◌, ◌*◌, ◌≤�
 use Rattle.fold.specs.Folding.{Folds, page_count}
 use Rattle.fold.specs.Sheets.{side_number, mark_number}
 use Rattle.fold.specs.Walk.{Filling}
-use Rattle.fold.specs.Words.{Letters}
+use Rattle.fold.specs.Words.{Letters, cells}
 use Rattle.fold.specs.declared.sheets.Cell.{Cell}
 use Rattle.fold.specs.declared.sheets.Mark.{Mark}
 use Rattle.fold.specs.declared.sheets.Mark.TheVariants.{Upright, Turned}
 use Rattle.fold.specs.declared.sheets.Side.{Side}
-use Rattle.signature.specs.Imposing.{cells}
 use Rattle.plan.specs.Records.{plan_to}
 use Rattle.plan.specs.declared.record.Record.{Record}
 

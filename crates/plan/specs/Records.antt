@@ -1,13 +1,13 @@
 -- The records of the sides that signatures of k sheets make, folded by the word u.
 use Rattle.std.specs.Prelude.{◌≡◌, ℕ, zero, suc, ◌+◌, ◌/◌, ◌%◌, Bool, cond, ◌&&◌, List, [], ◌++◌, map, length, Some, None, Option, nat_le, nat_lt}
 use Rattle.std.specs.List.{range_with_len}
-use Rattle.fold.specs.Sheets.{side_number, mark_number}
+use Rattle.fold.specs.Sheets.{mark_number, side_number, side_of}
 use Rattle.fold.specs.Walk.{laid, from_1_to}
-use Rattle.fold.specs.Words.{Letters, columns_of, rows_of}
+use Rattle.fold.specs.Words.{Letters, cells, columns_of, rows_of}
 use Rattle.pages.specs.Limits.{max_pages}
 use Rattle.pages.specs.Splice.{splice}
 use Rattle.pages.specs.declared.maps.Size.{Size}
-use Rattle.signature.specs.Imposing.{cells, pages_before, position, sheet_of, side_of, signatures_before}
+use Rattle.signature.specs.Imposing.{pages_before, position, sheet_of, signatures_before}
 use Rattle.signature.specs.Laws.{mark_of}
 use Rattle.plan.specs.declared.record.Record.{Record}
 

@@ -5,27 +5,10 @@ ghost use Rattle.fold.specs.Folding.{page_count};
 ghost use Rattle.fold.specs.Signatures.{letters_of};
 ghost use Rattle.pages.specs.Limits.{max_pages};
 ghost use Rattle.plan.specs.Records.{place_after, position_record, record_in, written};
-ghost use Rattle.signature.specs.Imposing.{cells, side_of};
 
 use crate::record::Record;
 use fold::{Position, Side, Signature};
 use pages::limits::MAX_PAGES;
-
-// Which side of its sheet a side is; sides count from 1.
-fn face(side: u32) -> Side
-    ensures { result ≡ side_of side }
-{
-    if side % 2 == 1 { Side::One } else { Side::Two }
-}
-
-/// How many positions a side has.
-pub fn positions(signature: &Signature) -> u32
-    ensures { (result ≡ cells (letters_of signature.now)) × (result ≤ 16) }
-{
-    let rows = signature.rows();
-    let columns = signature.columns();
-    rows * columns
-}
 
 // How many pages so many signatures take.
 fn pages_of(signature: &Signature, signatures: u32) -> u32
@@ -50,7 +33,7 @@ pub fn record(signature: &Signature, side: u32, row: u32, column: u32) -> Option
     let lower = before % sheets;
     let at = Position {
         sheet: lower + 1,
-        side: face(side),
+        side: Side::of(side),
         row,
         column,
     };
@@ -58,11 +41,11 @@ pub fn record(signature: &Signature, side: u32, row: u32, column: u32) -> Option
     Some(Record {
         signature: signatures + 1,
         sheet: at.sheet,
-        side: at.side.number(),
+        side: u32::from(at.side),
         row,
         column,
         page: pages_of(signature, signatures) + cell.page,
-        mark: cell.mark.number(),
+        mark: u32::from(cell.mark),
     })
 }
 
@@ -70,7 +53,7 @@ pub fn record(signature: &Signature, side: u32, row: u32, column: u32) -> Option
 pub fn record_at(signature: &Signature, side: u32, index: u32) -> Option<Record>
     ensures { result ≡ record_in (letters_of signature.now) signature.now.sheets side index }
 {
-    if positions(signature) <= index {
+    if signature.cells() <= index {
         return None;
     }
     let columns = signature.columns();
@@ -88,7 +71,7 @@ pub fn put_records(
     ensures answer { result ≡ place_after (letters_of signature.now) side (length plan.old) at }
     ensures after { plan.new ≡ written (letters_of signature.now) signature.now.sheets side plan.old at }
 {
-    let count = positions(signature);
+    let count = signature.cells();
     if side == 0 || MAX_PAGES < side {
         return None;
     }

@@ -4,7 +4,7 @@ use Rattle.std.specs.Option.{option_map, ok_or}
 use Rattle.std.proofs.lemmas.List.{take_at}
 use Rattle.std.proofs.lemmas.Bool.{cases_lt, and_parts, le-leb, leb-true, cond-true}
 use Rattle.fold.specs.Signatures.{letters_of}
-use Rattle.fold.specs.Words.{Letters}
+use Rattle.fold.specs.Words.{Letters, cells}
 use Rattle.fold.specs.declared.signature.Signature.{Signature}
 use Rattle.pages.specs.Limits.{max_placements}
 use Rattle.pages.specs.Meaning.{Meaning, Lawful, fault, laid_at, place_at, size_of, slot_at}
@@ -14,7 +14,7 @@ use Rattle.pages.specs.declared.maps.Placement.{Placement}
 use Rattle.pages.specs.declared.maps.Size.{Size as Dimensions}
 use Rattle.layers.specs.Layering.{deeper, exactly, layered, shown}
 use Rattle.layers.specs.declared.extent.Extent.{Extent}
-use Rattle.signature.specs.Imposing.{cells, side_parts, side_size, sides_of}
+use Rattle.signature.specs.Imposing.{side_parts, side_size, sides_of}
 use Rattle.sides.specs.Laws.{Accepted}
 use Rattle.sides.specs.Texts.{blocks_of, ending_text, head_text, opening_of, parts_text, side_of_blocks, side_text}
 use Rattle.sides.proofs.Showing.{sides_as_shown}

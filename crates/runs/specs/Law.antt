@@ -1,10 +1,10 @@
 -- The law of a run of calls: the source m is printed on signatures of k sheets, folded by the word u.
 use Rattle.std.specs.Prelude.{◌≡◌, ℕ, ◌*◌, ◌≤◌, cond, List, ◌++◌, length, drop, Some, None, nat_le}
 use Rattle.std.specs.Option.{option_map}
-use Rattle.fold.specs.Words.{Letters}
+use Rattle.fold.specs.Words.{Letters, cells}
 use Rattle.pages.specs.Meaning.{Meaning, size_of}
 use Rattle.layers.specs.Layering.{deeper, exactly}
-use Rattle.signature.specs.Imposing.{cells, side_parts, side_size, sides_of}
+use Rattle.signature.specs.Imposing.{side_parts, side_size, sides_of}
 use Rattle.sides.specs.Texts.{blocks_of, ending_text, opening_of, side_of_blocks, side_text}
 use Rattle.job.specs.Calls.{shown_by}
 use Rattle.plan.specs.Folds.{FoldsUp, Planned}

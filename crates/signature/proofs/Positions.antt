@@ -7,7 +7,7 @@ use Rattle.std.proofs.lemmas.Option.{slice_get_past}
 use Rattle.std.proofs.lemmas.Bool.{cond_both, cond-true, le-leb}
 use Rattle.fold.specs.Folding.{page_count}
 use Rattle.fold.specs.Walk.{laid, shows, walk, start, step, across, odd, cell_at, has, from_1_to}
-use Rattle.fold.specs.Words.{Letters, columns_of, rows_of}
+use Rattle.fold.specs.Words.{Letters, cells, columns_of, rows_of}
 use Rattle.fold.specs.declared.letters.Letter.{Letter}
 use Rattle.fold.specs.declared.letters.Letter.TheVariants.{W, N}
 use Rattle.fold.specs.declared.sheets.Cell.{Cell}
@@ -24,7 +24,8 @@ use Rattle.fold.specs.Signatures.{letters_of}
 use Rattle.fold.specs.declared.signature.Signature.{Signature}
 use Rattle.layers.specs.Layering.{Below, all_below}
 use Rattle.layers.specs.Showing.{in_range}
-use Rattle.signature.specs.Imposing.{cells, position_map, position_at, positions, side_of, sheet_of, sheets_before, sides_of, impose_shows, spot_at, pages_before}
+use Rattle.fold.specs.Sheets.{side_of}
+use Rattle.signature.specs.Imposing.{position_map, position_at, positions, sheet_of, sheets_before, sides_of, impose_shows, spot_at, pages_before}
 use Rattle.signature.proofs.Grids.{before_fits}
 
 pub nth_counted : {X : Type 0} (f : ℕ → X) (a n i j : ℕ) → i < n → a + i ≡ j → Some (f j) ≡ slice_get (map f (range_with_len a n)) i

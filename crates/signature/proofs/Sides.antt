@@ -11,7 +11,8 @@ use Rattle.fold.specs.declared.sheets.Side.{Side}
 use Rattle.fold.specs.declared.sheets.Side.TheVariants.{One, Two}
 use Rattle.fold.proofs.Order.{folds_in_order}
 use Rattle.pages.specs.declared.maps.Size.{Size}
-use Rattle.signature.specs.Imposing.{sheets_before, signatures_before, sheet_of, side_of, position_map}
+use Rattle.fold.specs.Sheets.{side_of}
+use Rattle.signature.specs.Imposing.{sheets_before, signatures_before, sheet_of, position_map}
 use Rattle.signature.specs.Laws.{side_number, mark_of, laid_on, SignaturesFold}
 
 -- ---- a side by its signature, sheet and face, and back

@@ -4,13 +4,14 @@ use Rattle.std.proofs.lemmas.Nat.{mul-le, div-add-mod', div-mul-add, mod-mul-add
 use Rattle.std.proofs.lemmas.Bool.{cases_lt}
 use Rattle.fold.specs.Folding.{page_count}
 use Rattle.fold.specs.Walk.{laid, shows, walk, start, begin, across, odd}
-use Rattle.fold.specs.Words.{Letters, columns_of}
+use Rattle.fold.specs.Words.{Letters, cells, columns_of}
 use Rattle.fold.specs.declared.sheets.Side.{Side}
 use Rattle.fold.specs.declared.sheets.Side.TheVariants.{One, Two}
 use Rattle.fold.specs.declared.walk.CellState.{CellState}
 use Rattle.fold.proofs.Law.{Reach, reach}
 use Rattle.pages.specs.declared.maps.Size.{Size}
-use Rattle.signature.specs.Imposing.{position, position_at, cells, sheets_before, signatures_before, sheet_of, side_of}
+use Rattle.fold.specs.Sheets.{side_of}
+use Rattle.signature.specs.Imposing.{position, position_at, sheets_before, signatures_before, sheet_of}
 use Rattle.signature.specs.Laws.{ByRows, Stands, SamePosition, EachPageOnce, side_number}
 use Rattle.signature.proofs.Apart.{apart}
 use Rattle.signature.proofs.Positions.{nth_counted, walk_depth, laid_page}

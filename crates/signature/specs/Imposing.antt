@@ -3,13 +3,12 @@ use Rattle.std.specs.Prelude.{◌≡◌, ℕ, ◌+◌, ◌-◌, ◌*◌, ◌/◌
 use Rattle.std.specs.List.{range_with_len}
 use Rattle.fold.specs.Folding.{page_count}
 use Rattle.fold.specs.Signatures.{letters_of}
+use Rattle.fold.specs.Sheets.{side_of}
 use Rattle.fold.specs.Walk.{laid, from_1_to}
-use Rattle.fold.specs.Words.{Letters, columns_of, rows_of, scheme}
+use Rattle.fold.specs.Words.{Letters, cells, columns_of, rows_of, scheme}
 use Rattle.fold.specs.declared.sheets.Mark.{Mark}
 use Rattle.fold.specs.declared.sheets.Mark.TheVariants.{Upright, Turned}
 use Rattle.fold.specs.declared.sheets.Position.{Position}
-use Rattle.fold.specs.declared.sheets.Side.{Side}
-use Rattle.fold.specs.declared.sheets.Side.TheVariants.{One, Two}
 use Rattle.fold.specs.declared.signature.Signature.{Signature}
 use Rattle.pages.specs.Limits.{max_side}
 use Rattle.pages.specs.Meaning.{Meaning, size_of}
@@ -25,10 +24,6 @@ use Rattle.layers.specs.declared.parts.Part.{Part}
 -- the sheets that a signature may have
 abbrev pub max_sheets : ℕ
 max_sheets = 16
-
--- the positions of a side
-abbrev pub cells : Letters → ℕ
-cells u = rows_of u * columns_of u
 
 -- Sides count from 1: side one before side two, sheet by sheet, signature by signature of k sheets.
 
@@ -46,9 +41,6 @@ pages_before u k p = signatures_before k p * page_count u k
 -- the sheet of side p in its signature, from 1
 abbrev pub sheet_of : ℕ → ℕ → ℕ
 sheet_of k p = sheets_before p % k + 1
-
-abbrev pub side_of : ℕ → Side
-side_of p = cond (p % 2 == 1) One Two
 
 -- where the position at an index of side p is, of so many columns: by rows from the top, from the left
 abbrev pub spot_at : ℕ → ℕ → ℕ → ℕ → Position

@@ -3,7 +3,7 @@
 ghost use Rattle.std.specs.Prelude.{◌≡◌, ◌*◌, ◌≤◌};
 ghost use Rattle.fold.specs.Signatures.{letters_of};
 ghost use Rattle.pages.specs.Limits.{max_pages, max_side};
-ghost use Rattle.signature.specs.Imposing.{Imposed, Unimposed, impose_objects, impose_shows, pages_before, position_map, positions, side_of, sides_of, spot_at};
+ghost use Rattle.signature.specs.Imposing.{Imposed, Unimposed, impose_objects, impose_shows, pages_before, position_map, positions, sides_of, spot_at};
 ghost use Rattle.std.specs.List.{slice_get};
 
 use fold::{Mark, Position, Side, Signature, Word};
@@ -32,13 +32,6 @@ pub struct Imposition {
 
 /// The Signature layer. Each of its pages is a side of a sheet; it starts with no pages.
 pub type Sheets<S> = Layer<S, Imposition>;
-
-// Which side of its sheet a side is; sides count from 1.
-fn side_of(side: u32) -> Side
-    ensures { result ≡ side_of side }
-{
-    if side % 2 == 1 { Side::One } else { Side::Two }
-}
 
 // How many sides the signatures of so many pages have.
 fn sides(signature: Signature, pages: u32) -> u32
@@ -83,7 +76,7 @@ fn spot(columns: u32, sheets: u32, side: u32, index: u32) -> Position
 {
     Position {
         sheet: side.saturating_sub(1) / 2 % sheets + 1,
-        side: side_of(side),
+        side: Side::of(side),
         row: index / columns + 1,
         column: index % columns + 1,
     }

@@ -1,8 +1,8 @@
 ghost use Rattle.std.specs.Prelude.{◌≡◌, ◌^◌, ◌≤◌, length, MatchOption};
 ghost use Rattle.fold.specs.Folding.{page_count};
 ghost use Rattle.fold.specs.Signatures.{ReadsInOrder, Thick, letters_of};
-ghost use Rattle.fold.specs.Walk.{cell_at};
-ghost use Rattle.fold.specs.Words.{columns_of, rows_of};
+ghost use Rattle.fold.specs.Walk.{cell_at, has};
+ghost use Rattle.fold.specs.Words.{cells, columns_of, rows_of};
 
 use super::Signature;
 use crate::sheets::{Cell, Position, Side};
@@ -37,9 +37,11 @@ impl Signature {
         self.word().columns()
     }
 
-    /// The cells of a side.
-    fn cells(&self) -> u32
-        ensures { (result ≡ 2 ^ length (letters_of self.now)) × (result ≤ 16) }
+    /// The cells of each side.
+    pub fn cells(&self) -> u32
+        ensures all { result ≡ cells (letters_of self.now) }
+        ensures power { result ≡ 2 ^ length (letters_of self.now) }
+        ensures few { result ≤ 16 }
     {
         self.rows() * self.columns()
     }
@@ -51,21 +53,24 @@ impl Signature {
         2 * self.sheets * self.cells()
     }
 
+    /// Whether the signature has a position.
+    fn has(&self, at: Position) -> bool
+        ensures { result ≡ has (letters_of self.now) self.now.sheets at }
+    {
+        (1..=self.sheets).contains(&at.sheet)
+            && (1..=self.rows()).contains(&at.row)
+            && (1..=self.columns()).contains(&at.column)
+    }
+
     /// The page and mark at a position, or None where the signature has no such position.
     pub fn cell(&self, at: Position) -> Option<Cell>
         ensures { result ≡ cell_at (letters_of self.now) self.now.sheets at }
     {
+        if !self.has(at) {
+            return None;
+        }
         let rows = self.rows();
         let columns = self.columns();
-        if at.sheet == 0 || at.sheet > self.sheets {
-            return None;
-        }
-        if at.row == 0 || at.row > rows {
-            return None;
-        }
-        if at.column == 0 || at.column > columns {
-            return None;
-        }
         // Side one lies down: its columns count from the other edge.
         let column = match at.side {
             Side::One => columns + 1 - at.column,

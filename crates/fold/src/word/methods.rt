@@ -1,13 +1,16 @@
-ghost use Rattle.std.specs.Prelude.{◌≡◌, ◌^◌, ◌<◌, ◌≤◌, [], ◌∷◌, ◌++◌, length, Some, MatchOption};
-ghost use Rattle.fold.specs.Spelled.{Reads, spelled_so_far, spelled};
+ghost use Rattle.std.specs.Prelude.{◌≡◌, ◌^◌, ◌<◌, ◌≤◌, [], ◌∷◌, ◌++◌, length, Some, MatchResult};
+ghost use Rattle.fold.specs.Spelled.{Reads, spelled, text_of, unread};
 ghost use Rattle.fold.specs.Walk.{WithRoom, walk};
 ghost use Rattle.fold.specs.Words.{columns_of, count_n, count_w, rows_of, scheme};
 ghost use Rattle.std.specs.List.{slice_get};
 ghost use Rattle.std.specs.Option.{option_map};
 
-use super::Word;
-use crate::letters::Letter;
+use super::{NotAWord, Word};
+use crate::letters::{Letter, Letters, UnknownLetter};
 use crate::walk::CellState;
+use std::error::Error;
+use std::fmt;
+use std::str::FromStr;
 
 fn two_to(exponent: u32) -> u32
     requires { exponent ≤ 4 }
@@ -15,6 +18,70 @@ fn two_to(exponent: u32) -> u32
 {
     1 << exponent
 }
+
+impl From<Letter> for Word {
+    ghost from_gives = { λ letter word. spelled word ≡ letter ∷ [] };
+
+    fn from(letter: Letter) -> Word {
+        Word {
+            mask: letter.digit(),
+            len: 1,
+        }
+    }
+}
+
+impl From<UnknownLetter> for NotAWord {
+    fn from(_: UnknownLetter) -> NotAWord {
+        NotAWord
+    }
+}
+
+impl TryFrom<&[u8]> for Word {
+    type Error = NotAWord;
+
+    ghost try_from_gives = { λ text r. Reads text.now r };
+
+    fn try_from(text: &[u8]) -> Result<Word, NotAWord> {
+        let [first, others @ ..] = text else {
+            return Err(NotAWord);
+        };
+        let mut word = Word::from(Letter::try_from(char::from(*first))?);
+        for b in others {
+            word = word.push(Letter::try_from(char::from(*b))?)?;
+        }
+        Ok(word)
+    }
+}
+
+impl FromStr for Word {
+    type Err = NotAWord;
+
+    ghost from_str_gives = { Reads };
+
+    fn from_str(text: &str) -> Result<Word, NotAWord> {
+        Word::try_from(text.as_bytes())
+    }
+}
+
+/// The letters, in the order in which the folds are made.
+impl fmt::Display for Word {
+    ghost output = { λ word. Some (text_of (spelled word)) };
+
+    fn fmt<W: fmt::Write>(&self, f: &mut fmt::Formatter<W>) -> fmt::Result {
+        for letter in self.letters() {
+            write!(f, "{letter}")?;
+        }
+        Ok(())
+    }
+}
+
+impl fmt::Display for NotAWord {
+    fn fmt<W: fmt::Write>(&self, f: &mut fmt::Formatter<W>) -> fmt::Result {
+        write!(f, "a fold word is one to four letters W and N")
+    }
+}
+
+impl Error for NotAWord {}
 
 impl Word {
     /// The word of a scheme: 1 is W, 2 NW, 3 WNW, 4 WW, 5 NWNW. There are no others.
@@ -37,60 +104,34 @@ impl Word {
         }
     }
 
-    /// The word with one letter more at its end; None where it has four already.
-    fn push(self, letter: Letter) -> Option<Word>
-        ensures { MatchOption result (length (spelled self) ≡ 4) (λ w. spelled w ≡ spelled self ++ letter ∷ []) }
+    /// The word with one letter more at its end; none where it has four already.
+    fn push(self, letter: Letter) -> Result<Word, NotAWord>
+        ensures { MatchResult result (λ w. spelled w ≡ spelled self ++ letter ∷ []) (λ _. length (spelled self) ≡ 4) }
     {
         if self.len >= 4 {
-            return None;
+            return Err(NotAWord);
         }
-        Some(Word {
+        Ok(Word {
             mask: letter.digit() << self.len | self.mask,
             len: self.len + 1,
         })
     }
 
-    /// One letter more after those so far, which may be none.
-    fn extended(so_far: Option<Word>, letter: Letter) -> Option<Word>
-        ensures { MatchOption result (length (spelled_so_far so_far) ≡ 4) (λ w. spelled w ≡ spelled_so_far so_far ++ letter ∷ []) }
+    /// The letters, in the order in which the folds are made.
+    pub fn letters(&self) -> Letters
+        ensures { unread result ≡ spelled self.now }
     {
-        match so_far {
-            Some(word) => word.push(letter),
-            None => Some(Word {
-                mask: letter.digit(),
-                len: 1,
-            }),
+        Letters {
+            mask: self.mask,
+            left: self.len,
         }
     }
 
-    /// The word that a text spells; None where it is not one to four letters W and N.
-    pub fn read(text: &[u8]) -> Option<Word>
-        ensures { Reads text.now result }
-    {
-        let mut word = None;
-        for b in text {
-            let letter = Letter::from_char(char::from(*b))?;
-            word = Some(Word::extended(word, letter)?);
-        }
-        word
-    }
-
-    /// The letter at an index that the word has.
-    fn letter_at(&self, index: u32) -> Letter
-        requires { index < self.now.len }
-        ensures { Some result ≡ slice_get (spelled self.now) index }
-    {
-        Letter::of_digit((self.mask >> index) % 2)
-    }
-
-    /// The letter at an index, from 0: the order in which the folds are made.
+    /// The letter at an index, from 0.
     pub fn letter(&self, index: u32) -> Option<Letter>
         ensures { result ≡ slice_get (spelled self.now) index }
     {
-        if index >= self.len as u32 {
-            return None;
-        }
-        Some(self.letter_at(index))
+        self.letters().nth(index as usize)
     }
 
     /// How many letters are N: the ones of the mask.
@@ -127,10 +168,8 @@ impl Word {
         ensures { (result ≡ walk (spelled self.now) start) × ((1 ≤ result.depth) × (result.depth ≤ 256)) }
     {
         let mut cell = start;
-        let mut rest = self.mask;
-        for done in 0..self.len {
-            cell = cell.take(Letter::of_digit(rest % 2));
-            rest /= 2;
+        for letter in self.letters() {
+            cell = cell.take(letter);
         }
         cell
     }

@@ -1,6 +1,6 @@
 use Rattle.std.proofs.Common.{◌&&◌, ltb, add-zero, arith}
 use Rattle.fold.specs.Signatures.{letters_of}
-use Rattle.signature.specs.Imposing.{cells}
+use Rattle.fold.specs.Words.{cells}
 use Rattle.text.proofs.Splices.{wrote_none}
 use Rattle.plan.specs.Records.{is_side, record_at}
 use Rattle.plan.proofs.Putting.{answered, counted_more}

@@ -5,4 +5,4 @@ use Rattle.plan.proofs.records.record_at.Goals as goal
 pub returns : goal.returns
 returns c =
     by_index c.args.signature.now c.args.side c.args.index c.columns-columns.result c.record.result
-    (omega (arith, c.positions.ensures.0)) c.columns-columns.ensures c.record.ensures
+    (omega (arith, c.cells.ensures.all)) c.columns-columns.ensures c.record.ensures

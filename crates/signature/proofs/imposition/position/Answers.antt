@@ -1,9 +1,9 @@
 use Rattle.std.proofs.Common.{◌≡◌, ◌*◌, ap, arith}
 use Rattle.std.proofs.lemmas.Nat.{mod_below}
 use Rattle.fold.specs.Signatures.{letters_of}
-use Rattle.fold.specs.Words.{rows_of, columns_of}
+use Rattle.fold.specs.Words.{cells, columns_of, rows_of}
 use Rattle.fold.specs.declared.sheets.Position.{Position}
-use Rattle.signature.specs.Imposing.{cells, sheets_before}
+use Rattle.signature.specs.Imposing.{sheets_before}
 use Rattle.signature.proofs.Grids.{grid_at, takes, row_below, column_below}
 use Rattle.signature.proofs.Positions.{position_past, position_is, no_cell, cell_page}
 use Rattle.signature.proofs.imposition.position.Goals as goal

@@ -18,4 +18,4 @@ pub overflow_mul-result : goal.overflow_mul-result
 overflow_mul-result c = omega (arith, few c)
 
 pub returns : goal.returns
-returns c = (cells_are c, few c)
+returns c = record { all = (λ i. c.rows.ensures i * c.columns.ensures i); power = cells_are c; few = few c }

@@ -1,10 +1,10 @@
-use Rattle.std.proofs.Common.{sym, arith}
-use Rattle.std.proofs.lemmas.Option.{slice_get_past}
-use Rattle.fold.specs.Spelled.{spelled}
-use Rattle.fold.proofs.Masks.{length-letters}
+use Rattle.std.proofs.Common.{sym, ◌∙◌}
+use Rattle.std.proofs.lemmas.Iterator.Adapters.{option_map_id}
+use Rattle.std.proofs.lemmas.Iterator.Consumers.{YieldsList-from_first, nth_from_yields_List}
+use Rattle.fold.specs.Spelled.{unread}
 use Rattle.fold.proofs.word.Word.letter.Goals as goal
 
-pub returns-then-index-self : goal.returns-then-index-self
-returns-then-index-self c =
-    let w = c.args.self.now in
-    sym (slice_get_past (spelled w) c.args.index (omega (arith, length-letters w.len w.mask, c.if-index-self.true)))
+pub returns : goal.returns
+returns c =
+    sym (option_map_id c.nth.result)
+    ∙ nth_from_yields_List c.nth.result c.nth.new.self c.args.index c.nth.ensures.ran (YieldsList-from_first (λ x. x) unread _ c.letters.ensures)

@@ -1,37 +1,37 @@
-use Rattle.std.proofs.Common.{◌≡◌, ℕ, suc, ◌+◌, ◌-◌, ◌/◌, ◌%◌, sym, refl, ap, ◌∙◌, subst, arith}
-use Rattle.fold.specs.Words.{letters, of_digit}
-use Rattle.fold.specs.Walk.{step, walk, WithRoom}
-use Rattle.fold.specs.declared.walk.CellState.{CellState}
+use Rattle.std.proofs.Common.{◌≡◌, suc, length, sym, ap, ◌∙◌, subst, refl, arith}
+use Rattle.fold.specs.Spelled.{spelled, unread}
+use Rattle.fold.specs.Walk.{walk, WithRoom}
+use Rattle.fold.proofs.Masks.{length-letters}
 use Rattle.fold.proofs.Steps.{fit, room_step}
 use Rattle.fold.proofs.word.Word.walk.Goals as goal
 
--- a place from which m letters of a mask lead to an end
-abbrev Leads : CellState → ℕ → ℕ → CellState → Type 0
-Leads end mask m p = (walk (letters m mask) p ≡ end) × WithRoom m p
-
-pub loop-done-init : goal.loop-done-init
-loop-done-init c =
-    let e : c.args.self.now.len ≡ c.args.self.now.len - 0 = omega arith in
-    subst (λ m. Leads (walk (letters c.args.self.now.len c.args.self.now.mask) c.args.start) c.args.self.now.mask m c.args.start) e (refl, c.requires)
+pub loop-letter-init : goal.loop-letter-init
+loop-letter-init c =
+    let w = c.args.self.now in
+    let first = c.into_iter-letter-iterator.result in
+    let all : unread first ≡ spelled w = ap unread c.into_iter-letter-iterator.ensures.into_iter_gives ∙ c.letters-letter-items.ensures in
+    let left : first.left ≡ w.len = sym (length-letters first.left first.mask) ∙ ap length all ∙ length-letters w.len w.mask in (
+      ap (λ u. walk u c.args.start) all,
+      subst (λ n. WithRoom n c.args.start) (sym left) c.requires,
+    )
 
 pub take-cell-requires : goal.take-cell-requires
-take-cell-requires c = fit (c.args.self.now.len - c.loop-done.done) c.loop-done.cell c.loop-done.invariant.1
+take-cell-requires c = fit c.loop-letter.letter-iterator.left c.loop-letter.cell c.loop-letter.invariant.1
 
-pub loop-done-preserved : goal.loop-done-preserved
-loop-done-preserved c =
-    let w = c.args.self.now in
-    let end = walk (letters w.len w.mask) c.args.start in
-    let n = w.len - (c.loop-done.done + 1) in
-    let e : w.len - c.loop-done.done ≡ suc n = omega (arith, c.loop-done-test.true) in
-    let inv = subst (λ m. Leads end c.loop-done.rest m c.loop-done.cell) e c.loop-done.invariant in
-    let q : step (of_digit (c.loop-done.rest % 2)) c.loop-done.cell ≡ c.take-cell.result =
-    ap (λ l. step l c.loop-done.cell) (sym c.of_digit.ensures) ∙ sym c.take-cell.ensures in
-    subst (Leads end (c.loop-done.rest / 2) n) q (inv.0, room_step n (of_digit (c.loop-done.rest % 2)) c.loop-done.cell inv.1)
+pub loop-letter-preserved : goal.loop-letter-preserved
+loop-letter-preserved c =
+    let before = c.loop-letter.letter-iterator in
+    let after = c.next.new.self in
+    let cell = c.loop-letter.cell in
+    let left : before.left ≡ suc after.left =
+    sym (length-letters before.left before.mask) ∙ ap length c.in-Some.ensures.steps ∙ ap suc (length-letters after.left after.mask) in (
+      ap (walk (unread after)) c.take-cell.ensures ∙ sym (ap (λ w. walk w cell) c.in-Some.ensures.steps) ∙ c.loop-letter.invariant.0,
+      subst (WithRoom after.left) (sym c.take-cell.ensures) (room_step after.left c.in-Some.letter cell (subst (λ n. WithRoom n cell) left c.loop-letter.invariant.1)),
+    )
 
 pub returns : goal.returns
 returns c =
-    let w = c.args.self.now in
-    let end = walk (letters w.len w.mask) c.args.start in
-    let e : w.len - c.loop-done.done ≡ 0 = omega (arith, c.loop-done-test.false) in
-    let inv = subst (λ m. Leads end c.loop-done.rest m c.loop-done.cell) e c.loop-done.invariant in
-    (inv.0, (inv.1.0, omega (arith, inv.1.1, inv.1.2)))
+    let inv = c.loop-letter.invariant in (
+      sym (ap (λ u. walk u c.loop-letter.cell) c.in-None.ensures.steps.0) ∙ inv.0,
+      (inv.1.0, omega (arith, fit c.loop-letter.letter-iterator.left c.loop-letter.cell inv.1)),
+    )

@@ -32,11 +32,11 @@ returns-then-list-side g c =
     let l = c.args.self.now.layer in
     sym (short_plan l.rule.signature (g.S.Source.meaning l.below) l.extent c.args.self.now.printed c.args.room c.args.list
     c.in-Some.signature (ordered g (goal.at.returns-then-list-side g c).In-Some) (omega (arith, c.pages.ensures, c.if-pages-self.false))
-    (omega (arith, c.side_length.ensures.all, c.if-room-side_length.false)) c.positions.result c.positions.ensures.0 c.if-list-side.true)
+    (omega (arith, c.side_length.ensures.all, c.if-room-side_length.false)) c.cells.result c.cells.ensures.all c.if-list-side.true)
 
 pub returns : goal.returns
 returns g c =
     let l = c.args.self.now.layer in
     sym (allowed l.rule.signature (g.S.Source.meaning l.below) l.extent c.args.self.now.printed c.args.room c.args.list
     c.in-Some.signature (ordered g (goal.at.returns g c).In-Some) (omega (arith, c.pages.ensures, c.if-pages-self.false))
-    (omega (arith, c.side_length.ensures.all, c.if-room-side_length.false)) c.positions.result c.positions.ensures.0 c.if-list-side.false)
+    (omega (arith, c.side_length.ensures.all, c.if-room-side_length.false)) c.cells.result c.cells.ensures.all c.if-list-side.false)

@@ -1,9 +1,9 @@
 use Rattle.std.proofs.Common.{◌≡◌, ◌*◌, length, Option, sym, ap, ◌∙◌, arith}
 use Rattle.fold.specs.Signatures.{letters_of}
-use Rattle.fold.specs.Words.{rows_of, columns_of}
+use Rattle.fold.specs.Words.{cells, columns_of, rows_of}
 use Rattle.fold.specs.declared.signature.Signature.{Signature}
 use Rattle.pages.specs.Meaning.{Meaning, size_of}
-use Rattle.signature.specs.Imposing.{cells, impose_shows}
+use Rattle.signature.specs.Imposing.{impose_shows}
 use Rattle.signature.proofs.Grids.{grid_at}
 use Rattle.signature.proofs.Positions.{count_is, side_shown}
 use Rattle.signature.proofs.imposition.ImpositionRule.count.Goals as goal
