@@ -9,7 +9,7 @@ use Rattle.pages.specs.declared.faults.Refusal.TheVariants.{NotDsc, Miscount, To
 use Rattle.pages.specs.declared.maps.Size.{Size}
 use Rattle.pages.specs.Pieces.{Piece, fresh, after, done, AllCalm}
 use Rattle.pages.specs.Inks.{Context, plain, lines, line, lines_of, text_of, Ink}
-use Rattle.pages.specs.Cuts.{leads, done-append, after-append, inked-append, inked_none}
+use Rattle.pages.proofs.Cuts.{leads, done-append, after-append, inked-append, inked_none}
 use Rattle.dsc.specs.declared.scanner.Part.{Part}
 use Rattle.dsc.specs.declared.scanner.Part.TheVariants.{Head, Preamble, Leaves}
 use Rattle.dsc.specs.declared.scanner.Scanner.{Scanner}

@@ -4,7 +4,7 @@ use Rattle.std.proofs.lemmas.List.{append_assoc}
 use Rattle.pages.specs.declared.maps.Size.{Size}
 use Rattle.pages.specs.Pieces.{Piece, fresh, after, done}
 use Rattle.pages.specs.Inks.{Context, plain, lines, line, lines_of, last_byte}
-use Rattle.pages.specs.Cuts.{after-append, done-append}
+use Rattle.pages.proofs.Cuts.{after-append, done-append}
 use Rattle.dsc.specs.Bounds.{mark}
 use Rattle.dsc.specs.Comments.{Kind, end_comments, trailer, pages, box, page, other}
 use Rattle.dsc.specs.Scans.{Read, scanned, meant, meant_by, kind_of}

@@ -9,7 +9,7 @@ use Rattle.pages.specs.Inks.{lines, text_of, Ink}
 use Rattle.pages.specs.Meaning.{Lawful}
 use Rattle.pages.specs.Pieces.{fresh, done}
 use Rattle.pages.specs.Inks.{plain}
-use Rattle.pages.specs.Cuts.{inked_none}
+use Rattle.pages.proofs.Cuts.{inked_none}
 use Rattle.dsc.specs.Comments.{kind, page}
 use Rattle.dsc.specs.Scans.{Read, scanned, meant, meant_by}
 use Rattle.dsc.specs.Readers.{Held, ink_of, meaning_of}

@@ -5,7 +5,7 @@ use Rattle.std.proofs.lemmas.List.{append-nil}
 use Rattle.pages.specs.declared.faults.Fault.{Fault}
 use Rattle.pages.specs.Pieces.{Piece, fresh, grown, after, done}
 use Rattle.pages.specs.Inks.{Context, plain, lines, lines_of, last_byte}
-use Rattle.pages.specs.Cuts.{after-append}
+use Rattle.pages.proofs.Cuts.{after-append}
 use Rattle.pages.proofs.Lines.{last_push}
 use Rattle.dsc.specs.declared.scanner.Scanner.{Scanner}
 use Rattle.dsc.specs.Scans.{Read, Step, goes, ends, stops, step, follow, kind_of, run, start}

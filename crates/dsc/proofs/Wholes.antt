@@ -3,7 +3,7 @@ use Rattle.std.proofs.Common.{◌≡◌, ℕ, List, [], ◌∷◌, ◌++◌, sym
 use Rattle.std.proofs.lemmas.List.{append-nil}
 use Rattle.pages.specs.Pieces.{Piece, fresh, after, done, flat, pieces}
 use Rattle.pages.specs.Inks.{Context, plain, lines, line, lines_of}
-use Rattle.pages.specs.Cuts.{splits, flat_done, pieces-append}
+use Rattle.pages.proofs.Cuts.{splits, flat_done, pieces-append}
 
 pub is_plain : (c : Context) → c ≡ plain
 is_plain plain = refl

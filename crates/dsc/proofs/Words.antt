@@ -6,7 +6,7 @@ use Rattle.std.proofs.lemmas.Bool.{ne_eqb, cond-false, and_from, not_from_false}
 use Rattle.std.proofs.lemmas.List.{append-nil, get_or-append_right}
 use Rattle.pages.specs.Limits.{max_pages, max_side}
 use Rattle.pages.specs.Inks.{plain, lines, last_byte, unbroken}
-use Rattle.pages.specs.Cuts.{done_one_piece}
+use Rattle.pages.proofs.Cuts.{done_one_piece}
 use Rattle.pages.proofs.Lines.{last_push, text_line, line_short}
 use Rattle.dsc.specs.Comments.{Kind, kind, pages, box, page}
 use Rattle.dsc.specs.Documents.{Line}

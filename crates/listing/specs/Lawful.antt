@@ -6,7 +6,7 @@ use Rattle.std.proofs.lemmas.Bool.{and_from, and_parts, cond_both, cond-false, l
 use Rattle.pages.specs.Inks.{Ink, forbidden, last_byte, lines, uncarried, unbroken}
 use Rattle.pages.specs.Limits.{max_ink}
 use Rattle.pages.specs.Meaning.{Lawful}
-use Rattle.pages.specs.Cuts.{inked-append, inked_none}
+use Rattle.pages.proofs.Cuts.{inked-append, inked_none}
 use Rattle.pages.proofs.Lines.{last_push, line_ink}
 use Rattle.listing.specs.Inks.{baseline, escape, escaped, font, ink_of, shown_line, shown_lines, special}
 use Rattle.listing.specs.Meaning.{ink_at, listed, page_of}

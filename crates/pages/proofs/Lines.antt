@@ -4,7 +4,7 @@ use Rattle.std.proofs.lemmas.List.{append_assoc, length_push, get_or_push, get_o
 use Rattle.std.proofs.lemmas.Bool.{and_parts, and_from, not-true, eqb-true}
 use Rattle.pages.specs.Pieces.{Piece, fresh, after, done, unended, AllCalm}
 use Rattle.pages.specs.Inks.{last_byte, shorter, uncarried, text_of, forbidden, Context, plain, lines, Ink, unbroken, line, ReadsLine, ReadsLast, fed, AllAllowed, Allowed, InksAreLines}
-use Rattle.pages.specs.Cuts.{Short, done_short, after_short, done_one_piece, after_one_piece, pieces_one_piece, inked-append, inked_none}
+use Rattle.pages.proofs.Cuts.{Short, done_short, after_short, done_one_piece, after_one_piece, pieces_one_piece, inked-append, inked_none}
 
 pub last_push : (bs : List ℕ) (b : ℕ) → last_byte (bs ++ b ∷ []) ≡ b
 last_push bs b = ap (λ (n : ℕ). get_or (bs ++ b ∷ []) (n - 1) 0) (length_push bs b) ∙ get_or_push bs b 0 (length bs + 1 - 1) (omega arith)

@@ -1,6 +1,7 @@
 -- The bounds keep the numbers of a composed map within 64 bits.
-use Rattle.std.proofs.Common.{◌≡◌, ℕ, zero, suc, ◌+◌, ◌*◌, ◌%◌, ◌<◌, ◌≤◌, Bool, true, false, cond, ◌&&◌, ℤ, pos, negsuc, ◌+ℤ◌, ◌*ℤ◌, neg_ℤ, ◌≤ℤ◌, Some, None, Option, sym, ap, ◌∙◌, subst, arith, w64, SFits, to_z, of_z}
+use Rattle.std.proofs.Common.{◌≡◌, ℕ, zero, suc, ◌+◌, ◌*◌, ◌%◌, ◌<◌, ◌≤◌, true, false, ℤ, pos, negsuc, ◌+ℤ◌, ◌*ℤ◌, neg_ℤ, ◌≤ℤ◌, ◌⊎◌, inl, inr, Some, sym, ap, ◌∙◌, subst, arith, w64, SFits, to_z, of_z}
 use Rattle.std.proofs.lemmas.Int.{ints, to_z-of_z, to_z_pos}
+use Rattle.std.proofs.lemmas.Bool.{cond-true, and_from}
 use Rattle.std.proofs.lemmas.Nat.{mul-le}
 use Rattle.pages.specs.declared.maps.Map.{Map}
 use Rattle.pages.specs.Limits.{max_turn, max_ratio, max_vector}
@@ -18,19 +19,14 @@ pub record Fit (m : Map) : Type 0 where
 pub fit : (m : Map) → fits m ≡ true → Fit m
 fit m h = record { quarter = grind arith; one = grind arith; ratio = grind arith; small = grind arith; near_x = grind arith; near_y = grind arith }
 
-pub far_den : (m : Map) → max_ratio < m.den → fits m ≡ false
-far_den m h = grind arith
+-- a composed map whose numerator or denominator is too great
+pub far : (m : Map) → max_ratio < m.den ⊎ max_ratio < m.num → fits m ≡ false
+far m (inl h) = grind arith
+far m (inr h) = grind arith
 
--- what composing two maps that fit answers
-module _ (t u : Map) (ht : fits t ≡ true) (hu : fits u ≡ true) where
-  abbrev answer : Bool → Bool → Bool → Option Map
-  answer a b c = cond (a && b && c) (Some (followed t u)) None
-
-  pub composed_is : (c : Bool) → fits (followed t u) ≡ c → composed t u ≡ cond c (Some (followed t u)) None
-  composed_is c hc = ap (λ (a : Bool). answer a (fits u) (fits (followed t u))) ht ∙ ap (λ (b : Bool). answer true b (fits (followed t u))) hu ∙ ap (answer true true) hc
-
-  pub composed_some : fits (followed t u) ≡ true → Some (followed t u) ≡ composed t u
-  composed_some h = sym (composed_is true h)
+-- what composing two maps that fit answers, if the composed map fits
+pub composed_some : (t u : Map) → fits t ≡ true → fits u ≡ true → fits (followed t u) ≡ true → Some (followed t u) ≡ composed t u
+composed_some t u ht hu h = sym (cond-true _ _ _ (and_from _ _ (and_from _ _ ht hu) h))
 
 -- whole numbers between -n and n
 record Bounded (n : ℕ) (z : ℤ) : Type 0 where
@@ -139,15 +135,16 @@ coordinate n d a b r hn hd ha hb e =
     let f : r ≡ pos n *ℤ a +ℤ pos d *ℤ b = e ∙ ap (λ (z : ℤ). pos n *ℤ z +ℤ pos d *ℤ to_z w64 (of_z w64 b)) (bits_near a ha) ∙ ap (λ (z : ℤ). pos n *ℤ a +ℤ pos d *ℤ z) (bits_near b hb) in
     ap (λ (z : ℤ). to_z w64 (of_z w64 z)) f ∙ to_z-of_z w64 (pos n *ℤ a +ℤ pos d *ℤ b) (summed n d a b hn hd ha hb).whole
 
-abbrev pub made : Map → Map → ℤ → ℤ → Map
-made t u x y = record { turn = (t.turn + u.turn) % 4; num = t.num * u.num; den = t.den * u.den; x = x; y = y }
+abbrev pub made : Map → Map → ℕ → ℕ → ℤ → ℤ → Map
+made t u n d x y = record { turn = (t.turn + u.turn) % 4; num = n; den = d; x = x; y = y }
 
 -- the map that the code makes is the composed one
-pub made_is : (t u : Map) (v : ℤ × ℤ) → Parts t u v → Fit u → (x y : ℤ) →
+pub made_is : (t u : Map) (v : ℤ × ℤ) → Parts t u v → Fit u → (n d : ℕ) (x y : ℤ) →
+    n ≡ t.num * u.num → d ≡ t.den * u.den →
     x ≡ pos u.num *ℤ to_z w64 (of_z w64 v.0) +ℤ pos t.den *ℤ to_z w64 (of_z w64 u.x) →
     y ≡ pos u.num *ℤ to_z w64 (of_z w64 v.1) +ℤ pos t.den *ℤ to_z w64 (of_z w64 u.y) →
-    made t u (to_z w64 (of_z w64 x)) (to_z w64 (of_z w64 y)) ≡ followed t u
-made_is t u v p g x y ex ey =
+    made t u n d (to_z w64 (of_z w64 x)) (to_z w64 (of_z w64 y)) ≡ followed t u
+made_is t u v p g n d x y en ed ex ey =
     let fx = coordinate u.num t.den v.0 u.x x p.num_small p.den_small p.near_x g.near_x ex ∙ ap (λ (w : ℤ × ℤ). pos u.num *ℤ w.0 +ℤ pos t.den *ℤ u.x) p.is in
     let fy = coordinate u.num t.den v.1 u.y y p.num_small p.den_small p.near_y g.near_y ey ∙ ap (λ (w : ℤ × ℤ). pos u.num *ℤ w.1 +ℤ pos t.den *ℤ u.y) p.is in
-    ap (λ (z : ℤ). made t u z (to_z w64 (of_z w64 y))) fx ∙ ap (made t u (followed t u).x) fy
+    λ i. made t u (en i) (ed i) (fx i) (fy i)

@@ -1,10 +1,11 @@
 pub mod Limits
 pub mod Faults
 pub mod Maps
+pub mod Texts
 pub mod Pieces
 pub mod Inks
 pub mod Splice
+pub mod Spans
 pub mod Meaning
+pub mod LeafPages
 pub mod Specimen
-pub mod Cuts
-pub mod SpecimenSourceLemmas

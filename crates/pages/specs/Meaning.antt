@@ -71,13 +71,13 @@ place_at m p s = cond (has m p) (ok_or (slot_at (m.page p) s) (fault NoSuch m.de
 abbrev pub length_at : Meaning → ℕ → Result ℕ Fault
 length_at m l = cond (nat_le l m.leaves) (Ok (length (m.ink l))) (Err (fault NoSuch 1 l))
 
--- the place after bytes that are written from place i of a buffer of n bytes
-abbrev pub end_at : List ℕ → ℕ → ℕ → Result ℕ Fault
-end_at bs n i = cond (nat_le (i + length bs) n) (Ok (i + length bs)) (Err (fault ShortBuffer 1 0))
+-- the place after items that are written from place i of a buffer of n items
+abbrev pub end_at : {X : Type 0} → List X → ℕ → ℕ → Result ℕ Fault
+end_at xs n i = cond (nat_le (i + length xs) n) (Ok (i + length xs)) (Err (fault ShortBuffer 1 0))
 
 -- what the buffer then holds
-abbrev pub written : List ℕ → List ℕ → ℕ → List ℕ
-written bs b i = cond (nat_le (i + length bs) (length b)) (splice b i bs) b
+abbrev pub written : {X : Type 0} → List X → List X → ℕ → List X
+written xs b i = cond (nat_le (i + length xs) (length b)) (splice b i xs) b
 
 -- what pour answers, with a buffer of n bytes
 abbrev pub pour_at : Meaning → ℕ → ℕ → ℕ → Result ℕ Fault

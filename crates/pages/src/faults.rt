@@ -1,17 +1,13 @@
 //! What every refusal of the product carries.
 
-ghost use Rattle.std.specs.Prelude.{◌≡◌, ◌==◌, Some, Decides};
-ghost use Rattle.std.specs.Ordering.{on};
+ghost use Rattle.std.specs.Prelude.{◌≡◌, Some};
 ghost use Rattle.pages.specs.Meaning.{fault};
 ghost use Rattle.pages.specs.Faults.{number, name, fault_text, Numbered};
-ghost use Rattle.std.specs.Cmp.Rules.{comparing};
-ghost use Rattle.std.proofs.Common.{rules};
-ghost use Rattle.std.specs.Cmp as Keys;
 
 use std::fmt;
 
 /// The kinds of refusal.
-#[derive(Clone, Copy, Eq, Debug)]
+#[derive(Clone, Copy, Debug, PartialEq, Eq)]
 pub enum Refusal {
     /// The file does not begin with the DSC mark.
     NotDsc,
@@ -60,12 +56,12 @@ pub struct Fault {
     pub offset: u32,
 }
 
-impl Refusal {
-    /// The number by which users know the kind, 1 to 18.
-    pub fn number(self) -> u8
-        ensures { result ≡ number self }
-    {
-        match self {
+/// The number by which users know the kind, 1 to 18.
+impl From<Refusal> for u8 {
+    ghost from_gives = { λ kind n. n ≡ number kind };
+
+    fn from(kind: Refusal) -> u8 {
+        match kind {
             Refusal::NotDsc => 1,
             Refusal::OutOfOrder => 2,
             Refusal::BadComment => 3,
@@ -86,12 +82,14 @@ impl Refusal {
             Refusal::ShortPlan => 18,
         }
     }
+}
 
-    /// The name by which users know the kind.
-    pub fn name(self) -> &'static str
-        ensures { result.now ≡ name self }
-    {
-        match self {
+/// The name by which users know the kind.
+impl fmt::Display for Refusal {
+    ghost output = { λ kind. Some (name kind) };
+
+    fn fmt<W: fmt::Write>(&self, f: &mut fmt::Formatter<W>) -> fmt::Result {
+        f.write_str(match self {
             Refusal::NotDsc => "NOT DSC",
             Refusal::OutOfOrder => "OUT OF ORDER",
             Refusal::BadComment => "BAD COMMENT",
@@ -110,7 +108,7 @@ impl Refusal {
             Refusal::WrongIndex => "WRONG INDEX",
             Refusal::Finished => "FINISHED",
             Refusal::ShortPlan => "SHORT PLAN",
-        }
+        })
     }
 }
 
@@ -128,33 +126,21 @@ impl Fault {
     }
 }
 
-/// Two kinds are one if their numbers are.
-impl PartialEq for Refusal {
-    ghost eq = { on number ◌==◌ };
-
-    ghost laws = { Keys.partial_equiv_from_equiv (Prim.search (comparing, rules)) };
-
-    fn eq(&self, other: &Refusal) -> bool
-        ensures computed { result ≡ (number self.now == number other.now) }
-        ensures decides { Decides result (self.now ≡ other.now) }
-    {
-        self.number() == other.number()
-    }
-}
-
 /// `NUMBER NAME layer L page P offset O`.
 impl fmt::Display for Fault {
     ghost output = { λ f. Some (fault_text f) };
 
     fn fmt<W: fmt::Write>(&self, f: &mut fmt::Formatter<W>) -> fmt::Result {
-        let number = self.kind.number();
-        let name = self.kind.name();
-        let layer = self.layer;
-        let page = self.page;
-        let offset = self.offset;
+        let Fault {
+            kind,
+            layer,
+            page,
+            offset,
+        } = *self;
+        let number = u8::from(kind);
         write!(
             f,
-            "{number} {name} layer {layer} page {page} offset {offset}"
+            "{number} {kind} layer {layer} page {page} offset {offset}"
         )
     }
 }

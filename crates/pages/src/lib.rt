@@ -3,7 +3,9 @@
 
 pub mod faults;
 pub mod inks;
+pub mod leaf_pages;
 pub mod limits;
 pub mod maps;
 pub mod sources;
+pub mod spans;
 pub mod specimen;

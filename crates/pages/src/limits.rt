@@ -18,3 +18,5 @@ pub const MAX_PLACEMENTS: u32 = 64;
 pub const MAX_INK: u32 = 16_777_216;
 /// The depth of a pile.
 pub const MAX_DEPTH: u8 = 255;
+/// Numbers of an index: a pair for the preamble and for each leaf.
+pub const INDEX_NUMBERS: usize = 2 * (1 + MAX_LEAVES as usize);

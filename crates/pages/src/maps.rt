@@ -1,10 +1,12 @@
 //! Maps of the plane, placements of leaves, and sizes.
 
-ghost use Rattle.std.specs.Prelude.{◌≡◌, ◌≤◌, true, pos, ◌+ℤ◌, ◌*ℤ◌, if◌then◌else◌, Some, None};
+ghost use Rattle.std.specs.Prelude.{◌≡◌, ◌≤◌, true, pos, ◌+ℤ◌, ◌*ℤ◌, if◌then◌else◌, ◌&&◌, Some, None};
 ghost use Rattle.pages.specs.Limits.{max_turn, max_ratio};
 ghost use Rattle.pages.specs.Maps.{near, fits, turned, identity, followed, composed, MapsCompose};
+ghost use Rattle.pages.specs.Texts.{map_text, size_text};
 
 use crate::limits::{MAX_RATIO, MAX_TURN, MAX_VECTOR};
+use std::fmt;
 
 /// Sends a point p to (num · R^turn p + (x, y)) / den, where R is a quarter turn: (x, y) goes to (−y, x).
 #[derive(Clone, Copy, PartialEq, Eq, Debug)]
@@ -30,10 +32,28 @@ pub struct Size {
     pub height: u32,
 }
 
+impl Size {
+    /// A letter page.
+    pub const LETTER: Size = Size {
+        width: 612,
+        height: 792,
+    };
+}
+
+/// `WIDTH HEIGHT`.
+impl fmt::Display for Size {
+    ghost output = { λ s. Some (size_text s) };
+
+    fn fmt<W: fmt::Write>(&self, f: &mut fmt::Formatter<W>) -> fmt::Result {
+        let Size { width, height } = *self;
+        write!(f, "{width} {height}")
+    }
+}
+
 fn near(v: i64) -> bool
     ensures { result ≡ near v }
 {
-    -MAX_VECTOR <= v && v <= MAX_VECTOR
+    (-MAX_VECTOR..=MAX_VECTOR).contains(&v)
 }
 
 // What q quarter turns make of (x, y).
@@ -76,16 +96,21 @@ impl Map {
         }
     }
 
+    // Whether the vector keeps its bounds.
+    fn is_near(self) -> bool
+        ensures { result ≡ (near self.x && near self.y) }
+    {
+        near(self.x) && near(self.y)
+    }
+
     /// Whether the map keeps the bounds of every map.
     pub fn fits(self) -> bool
         ensures { result ≡ fits self }
     {
-        (self.turn <= MAX_TURN)
-            & (1 <= self.num)
-            & (self.num <= self.den)
-            & (self.den <= MAX_RATIO)
-            & near(self.x)
-            & near(self.y)
+        self.turn <= MAX_TURN
+            && (1..=self.den).contains(&self.num)
+            && self.den <= MAX_RATIO
+            && self.is_near()
     }
 
     // This map followed by the other, of two that fit.
@@ -95,19 +120,14 @@ impl Map {
         ensures { result ≡ (if fits (followed self other) then Some (followed self other) else None) }
     {
         let (x, y) = turned(other.turn, self.x, self.y);
-        let num = self.num as u64 * other.num as u64;
-        let den = self.den as u64 * other.den as u64;
-        if den > MAX_RATIO as u64 {
-            return None;
-        }
         let both = Map {
             turn: (self.turn + other.turn) % 4,
-            num: num as u32,
-            den: den as u32,
+            num: self.num.checked_mul(other.num)?,
+            den: self.den.checked_mul(other.den)?,
             x: scaled(other.num, x, self.den, other.x),
             y: scaled(other.num, y, self.den, other.y),
         };
-        if both.fits() { Some(both) } else { None }
+        both.fits().then_some(both)
     }
 
     /// This map followed by the other; None where one of the three leaves the bounds.
@@ -118,6 +138,22 @@ impl Map {
             return None;
         }
         self.followed(other)
+    }
+}
+
+/// `TURN NUM DEN X Y`.
+impl fmt::Display for Map {
+    ghost output = { λ m. Some (map_text m) };
+
+    fn fmt<W: fmt::Write>(&self, f: &mut fmt::Formatter<W>) -> fmt::Result {
+        let Map {
+            turn,
+            num,
+            den,
+            x,
+            y,
+        } = *self;
+        write!(f, "{turn} {num} {den} {x} {y}")
     }
 }
 

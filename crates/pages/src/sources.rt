@@ -47,23 +47,23 @@ pub trait Source {
     ghost lawful: { (s : Self) → Lawful (meaning s) };
 }
 
-// Writes bytes over a part of the buffer.
-fn put(bytes: &[u8], buffer: &mut [u8], at: usize)
-    requires { at + length bytes.now ≤ length buffer.old }
-    ensures { buffer.new ≡ splice buffer.old at bytes.now }
+// Writes items over a part of the buffer.
+fn put<T: Copy>(items: &[T], buffer: &mut [T], at: usize)
+    requires { at + length items.now ≤ length buffer.old }
+    ensures { buffer.new ≡ splice buffer.old at items.now }
 {
-    let part = &mut buffer[at..at + bytes.len()];
-    part.copy_from_slice(bytes);
+    let part = &mut buffer[at..at + items.len()];
+    part.copy_from_slice(items);
 }
 
-/// Writes bytes into the buffer from byte `at` on, if they fit: what pour does with an ink that stands somewhere as bytes.
-pub fn write(bytes: &[u8], buffer: &mut [u8], at: usize) -> Result<usize, Fault>
-    ensures answer { result ≡ end_at bytes.now (length buffer.old) at }
-    ensures after { buffer.new ≡ written bytes.now buffer.old at }
+/// Writes items into the buffer from place `at` on, if they fit: what pour does with an ink that stands somewhere as bytes.
+pub fn write<T: Copy>(items: &[T], buffer: &mut [T], at: usize) -> Result<usize, Fault>
+    ensures answer { result ≡ end_at items.now (length buffer.old) at }
+    ensures after { buffer.new ≡ written items.now buffer.old at }
 {
-    if buffer.len() < at || buffer.len() - at < bytes.len() {
+    if buffer.len() < at || buffer.len() - at < items.len() {
         return Err(Fault::new(Refusal::ShortBuffer, 1, 0));
     }
-    put(bytes, buffer, at);
-    Ok(at + bytes.len())
+    put(items, buffer, at);
+    Ok(at + items.len())
 }

@@ -10,7 +10,7 @@ use Rattle.pages.specs.Maps.{fits, near}
 use Rattle.pages.specs.Meaning.{Meaning, Lawful, all_sound}
 use Rattle.pages.specs.declared.maps.Map.{Map}
 use Rattle.pages.specs.declared.maps.Placement.{Placement}
-use Rattle.pages.specs.Cuts.{inked-append, inked_none}
+use Rattle.pages.proofs.Cuts.{inked-append, inked_none}
 use Rattle.pages.proofs.Lines.{line_ink}
 use Rattle.sides.specs.Texts.{block, block_of, blocks_of, ink_of, line, placing, quotient, showpage}
 

@@ -12,7 +12,7 @@ use std::{env, fs, io};
 const NUMBERS: usize = 8194;
 
 fn print_fault(rt: &HostRuntime, name: &str, fault: Fault) -> io::Result<()> {
-    let number = fault.kind.number();
+    let number = u8::from(fault.kind);
     let (layer, page, offset) = (fault.layer, fault.page, fault.offset);
     println!(rt; "{name} refused {number} {layer} {page} {offset}")
 }

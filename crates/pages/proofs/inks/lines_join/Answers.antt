@@ -1,5 +1,5 @@
 use Rattle.pages.specs.Inks.{lines}
-use Rattle.pages.specs.Cuts.{cuts}
+use Rattle.pages.proofs.Cuts.{cuts}
 use Rattle.pages.proofs.inks.lines_join.Goals as goal
 
 pub returns : goal.returns
