@@ -1,7 +1,6 @@
 -- Texts written one after the other in a loop.
-use Rattle.std.proofs.Common.{◌≡◌, ℕ, ◌+◌, ◌<◌, ◌≤◌, List, [], ◌∷◌, ◌++◌, length, get_or, take, drop, sym, refl, ap, ◌∙◌, append_assoc, arith, length-append}
+use Rattle.std.proofs.Common.{◌≡◌, ℕ, ◌+◌, ◌<◌, List, [], ◌∷◌, ◌++◌, length, get_or, take, drop, sym, refl, ap, ◌∙◌, append_assoc}
 use Rattle.std.specs.List.{flat_map}
-use Rattle.text.specs.Writes.{Wrote}
 use Rattle.std.proofs.lemmas.List.{take_more, take-append-drop}
 
 module _ {X A : Type 0} (f : X → List A) where
@@ -16,15 +15,8 @@ module _ {X A : Type 0} (f : X → List A) where
       one : (ys : List A) → ys ++ [] ≡ ys
       one ys = mathlib.Core.List.append-nil ys
 
-  pub length-next : (xs : List X) (i : ℕ) (d : X) → i < length xs → length (flat_map f (take i xs)) + length (f (get_or xs i d)) ≡ length (flat_map f (take (i + 1) xs))
-  length-next xs i d h = sym (length-append (flat_map f (take i xs)) (f (get_or xs i d))) ∙ ap length (joined_next xs i d h)
-
-  pub joined_room : (xs : List X) (i : ℕ) (d : X) → i < length xs → length (flat_map f (take i xs)) + length (f (get_or xs i d)) ≤ length (flat_map f xs)
-  joined_room xs i d h =
-      let a = length-next xs i d h in
-      let e = ap length (ap (flat_map f) (sym (take-append-drop (i + 1) xs)) ∙ joined-append (take (i + 1) xs) (drop (i + 1) xs)) in
-      omega (arith, length-append (flat_map f (take (i + 1) xs)) (flat_map f (drop (i + 1) xs)))
-
-  -- the next of the texts still has room
-  pub room_next : {b b' : List A} {at e : ℕ} (xs : List X) (i : ℕ) (d : X) → i < length xs → at + length (flat_map f xs) ≤ length b → length b' ≡ length b → Wrote b at (flat_map f (take i xs)) b' e → e + length (f (get_or xs i d)) ≤ length b'
-  room_next xs i d h r k w = omega (arith, joined_room xs i d h, w.ends)
+  -- the texts before one, that one, and those after it
+  pub joined_all : (xs : List X) (i : ℕ) (d : X) → i < length xs → (flat_map f (take i xs) ++ f (get_or xs i d)) ++ flat_map f (drop (i + 1) xs) ≡ flat_map f xs
+  joined_all xs i d h =
+      ap (λ z. z ++ flat_map f (drop (i + 1) xs)) (joined_next xs i d h)
+      ∙ sym (joined-append (take (i + 1) xs) (drop (i + 1) xs)) ∙ ap (flat_map f) (take-append-drop (i + 1) xs)

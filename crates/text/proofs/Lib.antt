@@ -1,5 +1,6 @@
-pub mod Splices
 pub mod Decimal
 pub mod Joins
-pub mod Searches
 pub mod Puts
+pub mod Searches
+pub mod Splices
+pub mod Taking

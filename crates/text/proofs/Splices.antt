@@ -1,34 +1,14 @@
 -- Laws of `splice`.
-use Rattle.std.proofs.Common.{◌≡◌, ℕ, ◌+◌, ◌<◌, ◌≤◌, List, [], ◌∷◌, ◌++◌, length, take, drop, set, sym, refl, ap, ◌∙◌, append_assoc, add-zero, add_assoc, add-one, arith, length-append, length-drop, length-set, length-take}
-use lib.Seq.{paste}
+use Rattle.std.proofs.Common.{◌≡◌, ℕ, ◌+◌, ◌<◌, ◌≤◌, List, [], ◌∷◌, ◌++◌, length, take, drop, set, sym, refl, ap, ◌∙◌, append_assoc, add-zero, add_assoc, add-one, arith, length-append, length-set, length-take}
 use Rattle.std.proofs.lemmas.List.{take-append-drop, set_split, take_at, length-take-le, drop-append-le}
-use Rattle.std.proofs.lemmas.List.Edits.{paste_all, paste-paste}
 use Rattle.std.proofs.lemmas.Slice.{put_mid-paste}
 use borrow.Rule.Slice.PartMut.{put_mid}
 use Rattle.pages.specs.Splice.{splice}
 use Rattle.text.specs.Writes.{Wrote}
+use Rattle.text.specs.Splicing.{pasted}
+pub use Rattle.text.specs.Splicing.{length-splice, splice_none, splice_splice}
 
 module _ {X : Type 0} where
-  pub length-splice : (b : List X) (at : ℕ) (xs : List X) → at + length xs ≤ length b → length (splice b at xs) ≡ length b
-  unfolding splice
-  length-splice b at xs h = simp (length-append, length-take, length-drop) (omega arith)
-
-  pub splice_none : (b : List X) (at : ℕ) → splice b at [] ≡ b
-  unfolding splice
-  splice_none b at = rw (add-zero, take-append-drop)
-
-  pasted : (b : List X) (at : ℕ) (xs : List X) → splice b at xs ≡ paste b at xs (length xs)
-  unfolding splice
-  pasted b at xs = sym (paste_all b at xs (length xs) refl)
-
-  pub splice_splice : (b : List X) (at : ℕ) (xs ys : List X) → at ≤ length b → splice (splice b at xs) (at + length xs) ys ≡ splice b at (xs ++ ys)
-  splice_splice b at xs ys h =
-      pasted (splice b at xs) (at + length xs) ys
-      ∙ ap (λ z. paste z (at + length xs) ys (length ys)) (pasted b at xs)
-      ∙ paste-paste b at xs ys (length xs) (length ys) refl refl h
-      ∙ ap (paste b at (xs ++ ys)) (sym (length-append xs ys))
-      ∙ sym (pasted b at (xs ++ ys))
-
   pub splice_one : (b : List X) (at : ℕ) (x : X) → at < length b → set b at x ≡ splice b at (x ∷ [])
   unfolding splice
   splice_one b at x h = rw add-one (set_split b at x h)

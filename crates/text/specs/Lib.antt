@@ -1,3 +1,6 @@
 pub mod Pieces
 pub mod Searches
+pub mod Sinking
+pub mod Sinks
+pub mod Splicing
 pub mod Writes

@@ -1,7 +1,6 @@
-use Rattle.std.proofs.Common.{◌≤◌, length, take}
-use Rattle.text.specs.Writes.{Wrote}
+use Rattle.std.proofs.Common.{◌≤◌, true, length, take}
 use Rattle.text.specs.Pieces.{spelled_all}
 use Rattle.text.proofs.put_pieces.Given as goal
 
 abbrev pub invariant-loop-piece : goal.invariant-loop-piece
-invariant-loop-piece l = (l.piece-index ≤ length l.pieces) × Wrote l.initial.buffer l.at (spelled_all (take l.piece-index l.pieces)) l.buffer l.end
+invariant-loop-piece g l = (l.piece-index ≤ length l.pieces) × g.O.Sink.takes l.initial.out (spelled_all (take l.piece-index l.pieces)) true l.out
