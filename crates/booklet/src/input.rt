@@ -62,6 +62,7 @@ impl Input {
         let file = files::read(rt, self.name.as_str())?;
         let mut index = vec![in rt.alloc(); 0u32; INDEX_NUMBERS]?;
         self.format.scan(&file, &mut index)?;
+        // each reader is another type, which borrows the file and the index here, so each is loaded in an arm of its own
         match self.format {
             Format::Dsc => {
                 let mut reader = Dsc::empty();
