@@ -1,6 +1,6 @@
 //! Answers of calls as they are printed.
 use fold::Cell;
-use pages::maps::{Placement, Size};
+use pages::maps::Placement;
 use runs::calls::Answer;
 use std::fmt;
 
@@ -16,17 +16,10 @@ impl fmt::Display for Said {
             Answer::Opened(length) => write!(f, "opened {length}"),
             Answer::Ended(length) => write!(f, "ended {length}"),
             Answer::Counted(count) => write!(f, "count {count}"),
-            Answer::Shown(Cell { page, mark }) => {
-                let mark = u32::from(mark);
-                write!(f, "cell {page} {mark}")
-            }
-            Answer::Measured(Size { width, height }) => write!(f, "size {width} {height}"),
+            Answer::Shown(Cell { page, mark }) => write!(f, "cell {page} {}", u32::from(mark)),
+            Answer::Measured(size) => write!(f, "size {size}"),
             Answer::Number(number) => write!(f, "{number}"),
-            Answer::Placed(Placement { leaf, map }) => {
-                let (turn, num, den) = (map.turn, map.num, map.den);
-                let (x, y) = (map.x, map.y);
-                write!(f, "place {leaf} {turn} {num} {den} {x} {y}")
-            }
+            Answer::Placed(Placement { leaf, map }) => write!(f, "place {leaf} {map}"),
             Answer::Poured(end) => write!(f, "poured {end}"),
             Answer::Refused(fault) => write!(f, "refused {fault}"),
         }

@@ -39,6 +39,7 @@ fn signature(heap: Global, scheme: &str, sheets: &str) -> Result<Signature, Fail
         .try_ok_or_else(|| Ok(Failure::NoSheets(String::from_str(heap, sheets)?)))
 }
 
+/// The command of the words after `fold`.
 fn fold(heap: Global, plan: bool, names: &[String]) -> Result<Command, Failure> {
     let [scheme, sheets] = names else {
         return Err(Failure::TooFewWords(
@@ -50,9 +51,21 @@ fn fold(heap: Global, plan: bool, names: &[String]) -> Result<Command, Failure> 
     Ok(Command::Fold { plan, signature })
 }
 
+/// The file that a command reads.
 fn input(verb: Verb, format: Format, mut names: Vec<String>) -> Result<Input, Failure> {
     let name = names.pop().ok_or(Failure::TooFewWords(verb, "a file, or - for standard input"))?;
     Ok(Input { format, name })
+}
+
+/// The file with its layers.
+fn layered(
+    verb: Verb,
+    format: Format,
+    names: Vec<String>,
+    orders: Vec<Order>,
+) -> Result<Pile, Failure> {
+    let input = input(verb, format, names)?;
+    Ok(Pile { input, orders })
 }
 
 /// The order of the last layer, which has to be the Signature layer, taken off the list.
@@ -69,41 +82,40 @@ fn with_options(heap: Global, verb: Verb, options: Options) -> Result<Command, F
         names,
         plan_lines,
         format,
-        mut orders,
+        orders,
         output,
         plan,
         calls,
         plan_room,
     } = options;
-    if verb == Verb::Fold {
-        return fold(heap, plan_lines, names.as_slice());
+    match verb {
+        Verb::Fold => fold(heap, plan_lines, names.as_slice()),
+        Verb::Check => Ok(Command::Check(input(verb, format, names)?)),
+        Verb::Pages => Ok(Command::Pages(layered(verb, format, names, orders)?)),
+        Verb::Make => {
+            let mut pile = layered(verb, format, names, orders)?;
+            let order = last_scheme(verb, &mut pile.orders)?;
+            let book = output.unwrap_or(Target::StandardOutput);
+            let make = Make { order, book, plan };
+            Ok(Command::Make { pile, make })
+        }
+        Verb::Calls => {
+            let mut pile = layered(verb, format, names, orders)?;
+            let order = last_scheme(verb, &mut pile.orders)?;
+            let file = calls.ok_or(Failure::TooFewWords(
+                verb,
+                "--calls and a file with a call on each line",
+            ))?;
+            let carry = Carry {
+                file,
+                order,
+                records: plan_room.unwrap_or(MAX_PAGES as usize),
+                texts: output,
+                plan,
+            };
+            Ok(Command::Calls { pile, carry })
+        }
     }
-    let input = input(verb, format, names)?;
-    if verb == Verb::Check {
-        return Ok(Command::Check(input));
-    }
-    if verb == Verb::Pages {
-        return Ok(Command::Pages(Pile { input, orders }));
-    }
-    let order = last_scheme(verb, &mut orders)?;
-    let pile = Pile { input, orders };
-    if verb == Verb::Make {
-        let book = output.unwrap_or(Target::StandardOutput);
-        let make = Make { order, book, plan };
-        return Ok(Command::Make { pile, make });
-    }
-    let file = calls.ok_or(Failure::TooFewWords(
-        verb,
-        "--calls and a file with a call on each line",
-    ))?;
-    let carry = Carry {
-        file,
-        order,
-        records: plan_room.unwrap_or(MAX_PAGES as usize),
-        texts: output,
-        plan,
-    };
-    Ok(Command::Calls { pile, carry })
 }
 
 /// The command that the words of the command line name, the program's own name first.

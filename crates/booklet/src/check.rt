@@ -1,14 +1,15 @@
 //! `booklet check`: what a file holds, or where and why it is refused.
 use crate::failure::Failure;
 use crate::input::{Reader, Reading};
+use pages::spans::Span;
 use std::io;
 use std::io::Write;
 
 /// `leaf I offset O length L`, and the label where there is one.
 fn print_leaf<R: Reader>(rt: &HostRuntime, reader: &R, index: &[u32], leaf: u32) -> io::Result<()> {
-    let at = 2 * leaf as usize;
-    let offset = index.get(at).copied().unwrap_or(0);
-    let length = index.get(at + 1).copied().unwrap_or(0);
+    let Some(Span { offset, length }) = Span::at(index, leaf as usize) else {
+        return Ok(());
+    };
     print!(rt; "leaf {leaf} offset {offset} length {length}")?;
     if let Some(label) = reader.label_of(leaf) {
         print!(rt; " label ")?;
@@ -28,10 +29,8 @@ impl Reading for Check {
         reader: R,
         index: &[u32],
     ) -> Result<(), Failure> {
-        let size = reader.size();
-        let (width, height) = (size.width, size.height);
-        let leaves = reader.leaves();
-        println!(rt; "size {width} {height}")?;
+        let (size, leaves) = (reader.size(), reader.leaves());
+        println!(rt; "size {size}")?;
         println!(rt; "leaves {leaves}")?;
         for leaf in 0..=leaves {
             print_leaf(rt, &reader, index, leaf)?;

@@ -3,9 +3,6 @@ use crate::failure::Failure;
 use std::io::Read;
 use std::{fs, io};
 
-/// The numbers that an index has at most: a pair for the preamble and for each of 4,096 pages.
-pub const INDEX_NUMBERS: usize = 8194;
-
 fn read_standard_input(rt: &HostRuntime) -> io::Result<Vec<u8>> {
     let mut bytes = Vec::new(rt.alloc());
     rt.stdin().read_to_end(&mut bytes)?;

@@ -4,6 +4,7 @@ use crate::files;
 use dsc::Dsc;
 use listing::Listing;
 use pages::faults::Fault;
+use pages::limits::INDEX_NUMBERS;
 use pages::sources::Source;
 
 /// How a file is written.
@@ -59,8 +60,9 @@ impl Input {
     /// Reads the file, and hands its reader and its index on.
     pub fn read<T: Reading>(&self, rt: &HostRuntime, reading: &T) -> Result<(), Failure> {
         let file = files::read(rt, self.name.as_str())?;
-        let mut index = vec![in rt.alloc(); 0u32; files::INDEX_NUMBERS]?;
+        let mut index = vec![in rt.alloc(); 0u32; INDEX_NUMBERS]?;
         self.format.scan(&file, &mut index)?;
+        // each reader is another type, which borrows the file and the index here, so each is loaded in an arm of its own
         match self.format {
             Format::Dsc => {
                 let mut reader = Dsc::empty();

@@ -13,6 +13,7 @@ use std::alloc::Global;
 pub struct Options {
     /// The words that are no options.
     pub names: Vec<String>,
+    /// Whether fold prints plan lines.
     pub plan_lines: bool,
     pub format: Format,
     pub orders: Vec<Order>,
@@ -53,6 +54,7 @@ impl Options {
         Ok(Some(options))
     }
 
+    /// Takes a word that is no option.
     fn name(&mut self, verb: Verb, word: String) -> Result<(), Failure> {
         if self.names.len() >= verb.most_names() {
             return Err(Failure::TooManyWords(verb, word));
@@ -61,6 +63,7 @@ impl Options {
         Ok(())
     }
 
+    /// Takes an option.
     fn set(&mut self, heap: Global, setting: Setting<'_>) -> Result<(), Failure> {
         match setting.kind {
             Kind::Listing => self.format = Format::Listing,

@@ -60,6 +60,7 @@ impl Target {
         Target::File(word)
     }
 
+    /// Writes the content; a file is moved to its place once all is written.
     pub fn write<C: Content>(&self, rt: &HostRuntime, content: &C) -> Result<(), Failure> {
         match self {
             Target::StandardOutput => {

@@ -44,6 +44,7 @@ impl Kind {
         kind.is_of(verb).then_some(kind)
     }
 
+    /// Whether it is an option of a command.
     fn is_of(self, verb: Verb) -> bool {
         match self {
             Kind::PlanLines => verb == Verb::Fold,
@@ -89,7 +90,7 @@ impl<'a> Setting<'a> {
         self.values.get(index).map_or("", |word| word.as_str())
     }
 
-    /// The failure of a value that cannot be read.
+    /// The failure of a value that cannot be read, or that there is no memory to tell it.
     pub fn unreadable(&self, heap: Global) -> Result<Failure, Failure> {
         Ok(Failure::BadValue {
             option: String::from_str(heap, self.name)?,
@@ -141,6 +142,7 @@ impl<'a> Words<'a> {
         word.starts_with('-') && (word != "-" || self.verb == Verb::Fold)
     }
 
+    /// What a word is that is no option of the command.
     fn without_value(&self, word: &'a str) -> Given<'a> {
         match word {
             "-h" | "--help" => Given::Help,
