@@ -1,5 +1,5 @@
 -- How far a reading has come.
-use Rattle.std.proofs.Common.{◌≡◌, ℕ, ◌+◌, ◌*◌, List, ◌∷◌, ◌++◌, length, Some, None, Ok, Err, Option, sym, refl, ◌∙◌, arith, length-append, Bor}
+use Rattle.std.proofs.Common.{◌≡◌, ℕ, ◌+◌, ◌*◌, List, ◌++◌, length, Some, None, Ok, Err, Option, sym, refl, ◌∙◌, arith, length-append, Bor}
 use Rattle.pages.specs.declared.faults.Fault.{Fault}
 use Rattle.dsc.specs.declared.reading.Reading.{Reading}
 use Rattle.dsc.specs.declared.scanner.LeafInk.{LeafInk}

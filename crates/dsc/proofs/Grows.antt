@@ -3,7 +3,7 @@ use Rattle.std.proofs.Common.{◌≡◌, ℕ, ◌+◌, ◌≤◌, List, [], ◌�
 use Rattle.pages.specs.declared.faults.Fault.{Fault}
 use Rattle.dsc.specs.declared.scanner.Scanner.{Scanner}
 use Rattle.dsc.specs.declared.reading.Reading.{Reading}
-use Rattle.dsc.specs.Scans.{Read, read, Step, goes, ends, stops, step, follow, kind_of, run}
+use Rattle.dsc.specs.Scans.{Read, Step, goes, ends, stops, step, follow, kind_of, run}
 use Rattle.pages.specs.Pieces.{Piece}
 use Rattle.pages.specs.Inks.{Context, lines_of}
 use Rattle.dsc.specs.Readings.{rest, comes}

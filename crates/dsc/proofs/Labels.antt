@@ -1,11 +1,11 @@
 -- A label, and what follows it.
-use Rattle.std.proofs.Common.{◌≡◌, ℕ, suc, ◌+◌, ◌<◌, ◌≤◌, Bool, true, false, cond, not, ◌||◌, eqb, ltb, List, [], ◌∷◌, length, get_or, take, drop, Some, None, Option, sym, refl, ap, ◌∙◌, ⊎_elim, arith, length-drop}
+use Rattle.std.proofs.Common.{◌≡◌, ℕ, suc, ◌+◌, ◌≤◌, Bool, true, false, cond, not, ◌||◌, eqb, ltb, List, [], ◌∷◌, length, get_or, take, drop, Some, None, sym, refl, ap, ◌∙◌, ⊎_elim, arith, length-drop}
 use Rattle.std.specs.List.{position, list_any}
-use Rattle.std.proofs.lemmas.Bool.{cond-true, cond-false, ne_eqb, cond_both, ltb-true, ltb-false, lt-ltb, le-ltb, cases_Bool}
+use Rattle.std.proofs.lemmas.Bool.{cond-false, ne_eqb, cond_both, ltb-true, ltb-false, lt-ltb, le-ltb, cases_Bool}
 use Rattle.std.proofs.lemmas.List.{length-take, length-take-le}
 use Rattle.text.specs.Searches.{until}
 use Rattle.dsc.specs.Values.{trim, word_of, past_word}
-use Rattle.dsc.specs.Comments.{label_len, paren_len, plain_len, Parted}
+use Rattle.dsc.specs.Comments.{label_len, paren_len, plain_len}
 use Rattle.dsc.proofs.Spans.{until_le, trim_blank, trim_word}
 
 word_le : (t : List ℕ) → length (word_of t) ≤ length t

@@ -1,4 +1,4 @@
-use Rattle.std.proofs.Common.{◌≡◌, sym, ◌∙◌, arith}
+use Rattle.std.proofs.Common.{sym, ◌∙◌, arith}
 use Rattle.dsc.proofs.Labels.{paren_none, paren_some}
 use Rattle.dsc.proofs.comments.enclosed.Goals as goal
 

@@ -1,4 +1,4 @@
-use Rattle.std.proofs.Common.{◌≡◌, sym, ap, ◌∙◌, arith}
+use Rattle.std.proofs.Common.{sym, ap, ◌∙◌}
 use Rattle.dsc.specs.Values.{trim}
 use Rattle.dsc.proofs.Labels.{trim_twice}
 use Rattle.dsc.proofs.comments.page_value.Goals as goal

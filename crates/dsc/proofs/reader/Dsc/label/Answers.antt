@@ -1,10 +1,10 @@
-use Rattle.std.proofs.Common.{◌≡◌, ℕ, ◌+◌, ◌-◌, List, length, take, drop, Some, None, Option, sym, refl, ap, ◌∙◌, subst, arith, Bor}
+use Rattle.std.proofs.Common.{◌≡◌, ℕ, ◌+◌, ◌-◌, List, take, drop, Some, None, sym, ap, ◌∙◌, subst, arith}
 use Rattle.pages.specs.Inks.{text_of}
 use Rattle.dsc.specs.declared.comments.Comment.{Comment}
 use Rattle.dsc.specs.declared.comments.Heading.{Heading}
 use Rattle.dsc.specs.declared.comments.Comment.TheVariants.{EndComments, Trailer, Pages, BoundingBox, Page, Other}
 use Rattle.dsc.specs.Comments.{Kind, kind, page, view, heading_of, page_view}
-use Rattle.dsc.specs.Readers.{offset_of, length_of}
+use Rattle.dsc.specs.Readers.{offset_of}
 use Rattle.dsc.specs.Loads.{line_offset, page_line}
 use Rattle.dsc.proofs.Indexed.{held_line, Between}
 use Rattle.dsc.proofs.Placed.{placed}

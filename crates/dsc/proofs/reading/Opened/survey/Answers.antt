@@ -1,6 +1,6 @@
-use Rattle.std.proofs.Common.{◌++◌, Some, Ok}
+use Rattle.std.proofs.Common.{◌++◌}
 use Rattle.dsc.specs.Scans.{read}
-use Rattle.dsc.specs.Readings.{numbers, Gives}
+use Rattle.dsc.specs.Readings.{numbers}
 use Rattle.dsc.proofs.Came.{came_on, came_done}
 use Rattle.dsc.proofs.Rooms.{room}
 use Rattle.dsc.proofs.reading.Opened.survey.Goals as goal
