@@ -1,10 +1,9 @@
 -- The parts of bytes, one at a time.
-use Rattle.std.proofs.Common.{◌≡◌, ℕ, suc, ◌+◌, ◌*◌, ◌<◌, ◌≤◌, true, false, not, eqb, ◌⊎◌, List, [], ◌∷◌, length, take, drop, sym, refl, ap, ◌∙◌, ⊎_elim, inl, inr, one-add, Some, None, Option, MatchOption, slice_range, Bor, arith, length-drop, length-take}
-use Rattle.std.proofs.lemmas.List.{drop-drop, drop_all, length-take-le, take_rest}
+use Rattle.std.proofs.Common.{◌≡◌, ℕ, suc, ◌+◌, ◌*◌, ◌<◌, ◌≤◌, true, false, not, eqb, ◌⊎◌, List, [], ◌∷◌, length, take, drop, sym, refl, ap, ◌∙◌, ⊎_elim, inl, inr, one-add, Some, None, Option, MatchOption, slice_range, Bor, arith}
+use Rattle.std.proofs.lemmas.List.{drop_all, take_rest}
 use Rattle.std.specs.Option.{unwrap_or}
-use Rattle.std.proofs.lemmas.Bool.{cases_Bool, cond-true, cond-false, eqb-true, not_from_true, not_from_false}
+use Rattle.std.proofs.lemmas.Bool.{cases_Bool, cond-true, cond-false, not_from_true, not_from_false}
 use Rattle.text.specs.Searches.{until}
-use Rattle.text.proofs.Searches.{until_le}
 use Rattle.listing.specs.Pages.{cut, onto}
 use Rattle.listing.specs.Scans.{index_from}
 
@@ -43,32 +42,10 @@ length-index at (p ∷ ps) = omega (arith, length-index (at + length p + 1) ps)
 pub cut_split : (s : ℕ) (bs first rest : List ℕ) → 0 < length bs → first ≡ take (until s bs) bs → rest ≡ drop (until s bs + 1) bs → cut s bs ≡ first ∷ cut s rest
 cut_split s bs first rest some ef er = cut_step s bs some ∙ (λ i. sym ef i ∷ cut s (sym er i))
 
-pub shorter : (s : ℕ) (bs rest : List ℕ) → 0 < length bs → rest ≡ drop (until s bs + 1) bs → length rest < length bs
-shorter s bs rest some e = omega (arith, ap length e, length-drop (until s bs + 1) bs)
-
 -- what a test of a slice for emptiness tells
 pub some_bytes : (bs : List ℕ) → false ≡ eqb (length bs) 0 → 0 < length bs
 some_bytes [] e = absurd (let z : ◌≡◌ {A = ℕ} 0 1 = cc in omega arith)
 some_bytes (b ∷ bs) e = omega arith
-
-pub no_bytes : (bs : List ℕ) → true ≡ eqb (length bs) 0 → bs ≡ []
-no_bytes [] e = refl
-no_bytes (b ∷ bs) e = absurd (omega (arith, eqb-true (length (b ∷ bs)) 0 (sym e)))
-
-pub cut_none : (s : ℕ) (bs : List ℕ) → true ≡ eqb (length bs) 0 → cut s bs ≡ []
-cut_none s bs e = ap (cut s) (no_bytes bs e)
-
-pub part_short : (s : ℕ) (bs first : List ℕ) → first ≡ take (until s bs) bs → length first ≤ length bs
-part_short s bs first e = omega (arith, ap length e, length-take (until s bs) bs)
-
--- where the next part begins in the whole
-pub next_place : (s : ℕ) (all bs first rest : List ℕ) (at : ℕ) → bs ≡ drop at all → 0 < length bs → first ≡ take (until s bs) bs → rest ≡ drop (until s bs + 1) bs
-    → (rest ≡ drop (at + (length first + 1)) all) × (at + (length first + 1) ≤ length all + 1)
-next_place s all bs first rest at eb some ef er =
-    let n : length first ≡ until s bs = ap length ef ∙ length-take-le (until s bs) bs (until_le s bs) in (
-      er ∙ ap (λ m. drop (m + 1) bs) (sym n) ∙ ap (drop (length first + 1)) eb ∙ drop-drop (length first + 1) at all,
-      omega (arith, until_le s bs, ap length eb, length-drop at all),
-    )
 
 -- what a lookup of the bytes from a place on tells, with none in place of a failure
 pub rest_after : (bs : List ℕ) (n : ℕ) (none : Bor (List ℕ)) (r : Option (Bor (List ℕ))) → none.now ≡ []

@@ -1,25 +1,11 @@
 -- A listing with no fault keeps its bounds.
-use Rattle.std.proofs.Common.{◌≡◌, ℕ, ◌+◌, ◌<◌, ◌≤◌, Bool, true, false, cond, not, eqb, leb, List, ◌∷◌, length, get_or, drop, Some, None, Option, refl, ap, ◌∙◌, arith}
-use Rattle.std.proofs.lemmas.List.{at_drop_more}
+use Rattle.std.proofs.Common.{◌≡◌, ℕ, ◌≤◌, Bool, true, false, cond, not, eqb, leb, Some, None, Option, refl, arith}
 use Rattle.std.proofs.lemmas.Bool.{cond_both, leb-true}
 use Rattle.pages.specs.Limits.{max_pages}
 use Rattle.pages.specs.declared.faults.Refusal.{Refusal}
 use Rattle.pages.specs.declared.faults.Refusal.TheVariants.{BadByte, TooMany, TooLong}
-use Rattle.listing.specs.Places.{Within, after, allowed, fault_at, max_columns, max_lines, or_fault, refusal, too_long}
+use Rattle.listing.specs.Places.{Within, after, allowed, fault_at, max_columns, max_lines, too_long}
 use Rattle.listing.specs.declared.places.Place.{Place}
-
-module _ (p : Place) (i : ℕ) (file : List ℕ) (b : ℕ) (short : i < length file) (here : get_or file i 0 ≡ b) where
-  pub next_none : fault_at p b ≡ None → refusal p i (drop i file) ≡ refusal (after p b) (i + 1) (drop (i + 1) file)
-  next_none e =
-      at_drop_more (refusal p i) file i 0 short
-      ∙ ap (λ x. refusal p i (x ∷ drop (i + 1) file)) here
-      ∙ ap (λ o. or_fault o p i (refusal (after p b) (i + 1) (drop (i + 1) file))) e
-
-  pub next_some : (k : Refusal) → fault_at p b ≡ Some k → refusal p i (drop i file) ≡ Some (record { kind = k; layer = 1; page = p.page; offset = i })
-  next_some k e =
-      at_drop_more (refusal p i) file i 0 short
-      ∙ ap (λ x. refusal p i (x ∷ drop (i + 1) file)) here
-      ∙ ap (λ o. or_fault o p i (refusal (after p b) (i + 1) (drop (i + 1) file))) e
 
 -- what a byte without a fault says of its place
 pub record Sound (p : Place) (b : ℕ) : Type 0 where

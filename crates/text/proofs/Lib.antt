@@ -1,6 +1,5 @@
 pub mod Decimal
 pub mod Joins
-pub mod Puts
 pub mod Searches
 pub mod Splices
 pub mod Taking
