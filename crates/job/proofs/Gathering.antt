@@ -1,6 +1,5 @@
--- The positions of a side, taken one by one.
-use Rattle.std.proofs.Common.{◌≡◌, ℕ, zero, suc, ◌+◌, ◌≤◌, Bool, true, false, cond, leb, List, [], ◌∷◌, ◌++◌, length, take, Some, None, Option, sym, refl, ap, ◌∙◌, add-one, arith}
-use Rattle.std.specs.List.{slice_get}
+-- How many positions a side has.
+use Rattle.std.proofs.Common.{ℕ, ◌≤◌, Bool, true, false, cond, leb, [], length, Some, None, Option, refl, arith}
 use Rattle.fold.specs.Signatures.{letters_of}
 use Rattle.fold.specs.Words.{cells, columns_of, rows_of}
 use Rattle.fold.specs.declared.signature.Signature.{Signature}
@@ -9,15 +8,6 @@ use Rattle.layers.specs.Layering.{Parts}
 use Rattle.signature.specs.Imposing.{impose_shows, positions, sides_of}
 use Rattle.signature.proofs.Grids.{grid_at}
 use Rattle.signature.proofs.Positions.{count_is}
-
-take_next : {X : Type 0} (xs : List X) (i : ℕ) (x : X) → slice_get xs i ≡ Some x → take (suc i) xs ≡ take i xs ++ x ∷ []
-take_next [] i x h = let z : ◌≡◌ {A = ℕ} 0 1 = cc in absurd (omega arith)
-take_next {X} (y ∷ xs) zero x h = let e : y ≡ x = cc in ap (λ (z : X). z ∷ []) e
-take_next {X} (y ∷ xs) (suc i) x h = ap (λ (z : List X). y ∷ z) (take_next xs i x h)
-
--- one more element is taken
-pub taken_more : {X : Type 0} (xs got : List X) (i : ℕ) (x : X) → slice_get xs i ≡ Some x → got ≡ take i xs → got ++ x ∷ [] ≡ take (i + 1) xs
-taken_more {X} xs got i x n e = ap (λ (z : List X). z ++ x ∷ []) e ∙ sym (take_next xs i x n) ∙ ap (λ (j : ℕ). take j xs) (sym (add-one i))
 
 few_with : (b : Bool) (xs : Parts) → length xs ≤ 16 → length (cond b xs []) ≤ 16
 few_with true xs h = h

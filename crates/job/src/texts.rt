@@ -7,8 +7,8 @@ ghost use Rattle.sides.specs.Texts.{parts_text};
 ghost use Rattle.std.specs.Prelude.{◌≡◌, ◌≤◌, length};
 
 use arrayvec::ArrayVec;
+use layers::page_parts::PageParts;
 use layers::parts::Part;
-use layers::rules::Rule;
 use pages::sources::Source;
 use sides::{frame_length, position_length, put_side};
 use signature::imposition::Sheets;
@@ -29,12 +29,9 @@ impl SideText {
         ensures side { result.side ≡ side }
         ensures positions { result.positions.items ≡ impose_shows layer.now.rule.signature (S.meaning layer.now.below) side }
     {
-        let rule = layer.rule();
-        let below = layer.covered();
-        // A rule gives its parts by their index alone.
         let mut positions = ArrayVec::new();
-        for index in 0..rule.count(below, side) {
-            positions.push(rule.part(below, side, index).unwrap());
+        for position in PageParts::of(layer.covered(), layer.rule(), side) {
+            positions.push(position);
         }
         SideText { side, positions }
     }

@@ -5,6 +5,7 @@ pub mod extent;
 pub mod laws;
 pub mod layer;
 pub mod pad;
+pub mod page_parts;
 pub mod parts;
 pub mod placements;
 pub mod ranges;

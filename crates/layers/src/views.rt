@@ -1,19 +1,15 @@
 //! How a rule shows the pages of a source below.
 
-ghost use Rattle.std.specs.Prelude.{◌≡◌, ◌≤◌, List, drop, length, MatchOption};
-ghost use Rattle.std.specs.Iterator.{YieldsFirst, item_count};
+ghost use Rattle.std.specs.Prelude.{◌≡◌, ◌≤◌, length, MatchOption};
 ghost use Rattle.layers.specs.Layering.{FirstCrowded, FirstFar, Near, Roomy, max_parts, parts_follow, shown};
-ghost use Rattle.layers.specs.declared.parts.Part.{Part};
 ghost use Rattle.pages.specs.Limits.{max_pages};
 ghost use Rattle.pages.specs.Meaning.{slot_at};
 
-use crate::parts::Part;
+use crate::page_parts::PageParts;
 use crate::rules::Rule;
 use pages::limits::MAX_PLACEMENTS;
 use pages::maps::Placement;
 use pages::sources::Source;
-use std::marker::Model;
-use std::ops::Range;
 
 /// A source below, and the rule by which its pages are shown.
 #[derive(Drop)]
@@ -22,49 +18,13 @@ pub(crate) struct View<'a, S: Source, R: Rule> {
     pub(crate) rule: &'a R,
 }
 
-// Goes over the parts of a page.
-#[derive(Drop)]
-struct Parts<'a, S: Source, R: Rule> {
-    below: &'a S,
-    rule: &'a R,
-    page: u32,
-    rest: Range<u32>,
-}
-
-/// A clause sees the parts that are left.
-impl<'a, S: Source, R: Rule> Model for Parts<'a, S, R> {
-    ghost Value = { List Part };
-
-    ghost view = { λ p. drop p.rest.start (R.Rule.shows p.rule.now (S.Source.meaning p.below.now) p.page) };
-
-    ghost invariant = { λ p. p.rest.end ≡ length (R.Rule.shows p.rule.now (S.Source.meaning p.below.now) p.page) };
-}
-
-impl<'a, S: Source, R: Rule> Iterator for Parts<'a, S, R> {
-    type Item = Part;
-
-    ghost next_gives = { YieldsFirst (λ s. s) };
-
-    ghost remaining = { item_count (λ s. s) };
-
-    fn next(&mut self) -> Option<Part> {
-        let index = self.rest.next()?;
-        self.rule.part(self.below, self.page, index)
-    }
-}
-
 impl<'a, S: Source, R: Rule> View<'a, S, R> {
     // The parts of a page.
-    fn parts(&self, page: u32) -> Parts<'a, S, R>
+    fn parts(&self, page: u32) -> PageParts<'a, S, R>
         ensures all { let m = S.Source.meaning self.now.below.now in result ≡ R.Rule.shows self.now.rule.now m page }
         ensures few { length result ≤ max_parts }
     {
-        Parts {
-            below: self.below,
-            rule: self.rule,
-            page,
-            rest: 0..self.rule.count(self.below, page),
-        }
+        PageParts::of(self.below, self.rule, page)
     }
 
     // How many placements the parts of a page have, those past the last that a page may have too.

@@ -1,6 +1,6 @@
 use Rattle.std.proofs.Common.{rules, arith}
 use Rattle.layers.proofs.Slots.{next_part}
-use Rattle.layers.proofs.views.PartsIterator.next.Goals as goal
+use Rattle.layers.proofs.page_parts.PagePartsIterator.next.Goals as goal
 
 pub returns-clause-steps : goal.returns-clause-steps
 returns-clause-steps g c =
