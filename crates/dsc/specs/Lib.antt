@@ -6,7 +6,6 @@ pub mod Scans
 pub mod Readings
 pub mod ScanAnswers
 pub mod Readers
-pub mod Props
 pub mod Documents
 pub mod Loads
 pub mod Joins

@@ -3,7 +3,7 @@ ghost use Rattle.std.specs.Prelude.{◌≡◌};
 ghost use Rattle.pages.specs.Meaning.{Lawful};
 ghost use Rattle.dsc.specs.Scans.{meant};
 ghost use Rattle.dsc.specs.Readers.{Held, meaning_of};
-ghost use Rattle.dsc.specs.Props.{AllCalm-prop};
+ghost use Rattle.pages.specs.Props.{AllCalm-prop};
 ghost use Rattle.std.proofs.Props.{props};
 
 use pages::maps::Size;

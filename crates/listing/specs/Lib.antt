@@ -4,7 +4,6 @@ pub mod Loads
 pub mod Meaning
 pub mod Pages
 pub mod Places
-pub mod Props
 pub mod Scans
 pub mod Shapes
 pub mod Sources

@@ -3,7 +3,7 @@ ghost use Rattle.std.specs.Prelude.{◌≡◌, ◌≤◌, false, length, is_some
 ghost use Rattle.std.proofs.Props.{props};
 ghost use Rattle.listing.specs.Meaning.{listed};
 ghost use Rattle.listing.specs.Places.{form_feed, refusal, top};
-ghost use Rattle.listing.specs.Props.{AllCalm-prop};
+ghost use Rattle.pages.specs.Props.{AllCalm-prop};
 ghost use Rattle.listing.specs.Scans.{Indexed};
 ghost use Rattle.pages.specs.Limits.{max_ink};
 ghost use Rattle.pages.specs.Meaning.{Lawful};

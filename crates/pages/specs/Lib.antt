@@ -4,6 +4,7 @@ pub mod Maps
 pub mod Texts
 pub mod Pieces
 pub mod Inks
+pub mod Props
 pub mod Splice
 pub mod Spans
 pub mod Meaning
