@@ -38,6 +38,7 @@ pub struct LeafInk {
 }
 
 /// What a line did: nothing for the index, or it ended an ink, or the reading with its last ink.
+// Three outcomes with names, which a `ControlFlow` over an option would not have.
 #[derive(Clone, Copy)]
 pub enum Turn {
     On,
