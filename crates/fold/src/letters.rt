@@ -1,7 +1,7 @@
 ghost use Rattle.fold.specs.Spelled.{Decodes};
 ghost use Rattle.fold.specs.Words.{code, digit_of, letters, of_digit};
 ghost use Rattle.std.specs.Iterator.{YieldsFirst, item_count};
-ghost use Rattle.std.specs.Prelude.{◌≡◌, [], ◌∷◌, Some};
+ghost use Rattle.std.specs.Prelude.{◌≡◌, [], ◌∷◌, Some, codes};
 
 use std::error::Error;
 use std::fmt;
@@ -54,8 +54,10 @@ impl fmt::Display for Letter {
 }
 
 impl fmt::Display for UnknownLetter {
+    ghost output = { λ _. Some (codes "a letter of a fold word is W or N") };
+
     fn fmt<W: fmt::Write>(&self, f: &mut fmt::Formatter<W>) -> fmt::Result {
-        write!(f, "{:?} is no letter of a fold word", self.0)
+        f.write_str("a letter of a fold word is W or N")
     }
 }
 

@@ -30,11 +30,6 @@ Indexed file index = take (length (file_index file)) index ≡ file_index file
 abbrev pub Bad : List ℕ → Fault → Type 0
 Bad file e = (max_ink < length file → e ≡ fault TooLong 1 0) × (length file ≤ max_ink → refusal top 0 file ≡ Some e)
 
--- What checking a file answers: the count of its pages.
-abbrev pub Tells : List ℕ → Result ℕ Fault → Type 0
-Tells file (Ok n) = Good file × (n ≡ length (cut form_feed file))
-Tells file (Err e) = Bad file e
-
 -- What scanning answers and leaves in the index.
 abbrev pub Scans : List ℕ → List ℕ → List ℕ → Result ℕ Fault → Type 0
 Scans file before after (Ok n) = Good file × (n ≡ length (cut form_feed file)) × (length (file_index file) ≤ length before) × (after ≡ splice before 0 (file_index file))

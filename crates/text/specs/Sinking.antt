@@ -11,10 +11,10 @@ counted_nothing s = sym (add-zero s.count)
 
 pub counted_both : (s t u : Counter) (xs ys : List ℕ) (fit : Bool) → Counted s xs true t → Counted t ys fit u → Counted s (xs ++ ys) fit u
 counted_both s t u xs ys true p q = omega (arith, length-append xs ys)
-counted_both s t u xs ys false p q = omega (arith, length-append xs ys)
+counted_both s t u xs ys false p q = (omega (arith, length-append xs ys), omega arith)
 
 pub counted_short : (s t : Counter) (xs ys : List ℕ) → Counted s xs false t → Counted s (xs ++ ys) false t
-counted_short s t xs ys p = omega (arith, length-append xs ys)
+counted_short s t xs ys p = (omega (arith, length-append xs ys), p.1)
 
 pub filled_nothing : (s : Lent) → Filled s [] true s
 filled_nothing s = record {
@@ -43,6 +43,7 @@ filled_both s t u xs ys false p q = record {
   rest = q.rest;
   parts = ap (λ z. xs ++ z) q.parts ∙ sym (append_assoc xs q.front q.rest);
   holds = q.holds ∙ then s t xs q.front p;
+  ends = omega (arith, q.ends, p.ends, length-append xs q.front);
   same = q.same ∙ p.same;
 }
 
@@ -53,5 +54,6 @@ filled_short s t xs ys p = record {
   rest = p.rest ++ ys;
   parts = ap (λ z. z ++ ys) p.parts ∙ append_assoc p.front p.rest ys;
   holds = p.holds;
+  ends = p.ends;
   same = p.same;
 }

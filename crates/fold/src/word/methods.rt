@@ -1,4 +1,4 @@
-ghost use Rattle.std.specs.Prelude.{◌≡◌, ◌^◌, ◌<◌, ◌≤◌, [], ◌∷◌, ◌++◌, length, Some, MatchResult};
+ghost use Rattle.std.specs.Prelude.{◌≡◌, ◌^◌, ◌<◌, ◌≤◌, [], ◌∷◌, ◌++◌, length, Some, MatchResult, codes};
 ghost use Rattle.fold.specs.Spelled.{Reads, spelled, text_of, unread};
 ghost use Rattle.fold.specs.Walk.{WithRoom, walk};
 ghost use Rattle.fold.specs.Words.{columns_of, count_n, count_w, rows_of, scheme};
@@ -76,8 +76,10 @@ impl fmt::Display for Word {
 }
 
 impl fmt::Display for NotAWord {
+    ghost output = { λ _. Some (codes "a fold word is one to four letters W and N") };
+
     fn fmt<W: fmt::Write>(&self, f: &mut fmt::Formatter<W>) -> fmt::Result {
-        write!(f, "a fold word is one to four letters W and N")
+        f.write_str("a fold word is one to four letters W and N")
     }
 }
 

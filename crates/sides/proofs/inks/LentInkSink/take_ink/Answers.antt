@@ -1,4 +1,4 @@
-use Rattle.std.proofs.Common.{◌≡◌, true, [], None, sym, refl, subst, ◌∙◌, ap, arith}
+use Rattle.std.proofs.Common.{◌≡◌, true, [], None, sym, refl, subst, ◌∙◌, ap, add-zero, arith}
 use Rattle.std.specs.Result.{result_ok}
 use Rattle.text.specs.Sinking.{filled_nothing}
 use Rattle.text.specs.Sinks.{Filled}
@@ -26,5 +26,6 @@ returns-in_err-self g c =
       rest = ink_of m c.args.leaf;
       parts = refl;
       holds = u.1 ∙ sym (splice_none s.buffer.now s.at);
+      ends = sym (add-zero s.at);
       same = refl;
     })

@@ -1,4 +1,4 @@
-use Rattle.std.proofs.Common.{[], sym, refl, arith}
+use Rattle.std.proofs.Common.{[], sym, refl, add-zero, arith}
 use Rattle.text.specs.Splicing.{splice_none}
 use Rattle.text.proofs.Splices.{put_mid_lem}
 use Rattle.text.proofs.sinks.LentSink.take.Goals as goal
@@ -10,6 +10,7 @@ returns-then-self-bytes c = record {
   rest = c.args.bytes.now;
   parts = refl;
   holds = sym (splice_none _ _);
+  ends = sym (add-zero _);
   same = refl;
 }
 
