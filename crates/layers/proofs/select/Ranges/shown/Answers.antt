@@ -2,7 +2,7 @@ use Rattle.std.proofs.Common.{◌≡◌, ℕ, ◌+◌, ◌-◌, List, length, ta
 use Rattle.std.specs.Bool.{then_some}
 use Rattle.std.proofs.lemmas.List.{length-take}
 use Rattle.layers.specs.declared.ranges.Range.{Range}
-use Rattle.layers.proofs.Selecting.{all_numbered, some_selected}
+use Rattle.layers.proofs.Selecting.{all_numbered}
 use Rattle.layers.proofs.select.Ranges.shown.Goals as goal
 
 pub returns-then-self-eq0 : goal.returns-then-self-eq0
