@@ -1,6 +1,6 @@
 //! Select: ranges of pages, one after another.
 
-ghost use Rattle.std.specs.Prelude.{◌≡◌, ◌-◌, ◌<◌, ◌≤◌, [], ◌∷◌, ◌++◌, MatchOption, length, slice_index};
+ghost use Rattle.std.specs.Prelude.{◌≡◌, ◌+◌, ◌-◌, ◌<◌, ◌≤◌, [], ◌∷◌, ◌++◌, MatchOption, length, take, slice_index};
 ghost use Rattle.std.specs.Option.{option_to_list};
 ghost use Rattle.layers.specs.Selecting.{SelectStarts, SelectTaken, max_ranges, select_objects, select_shows, selected, unless_blank};
 
@@ -9,7 +9,6 @@ use crate::layer::Layer;
 use crate::parts::{Objection, Part};
 use crate::ranges::{Range, first_missing, page_at, total};
 use crate::rules::{Plan, Rule};
-use arrayvec::ArrayVec;
 use pages::faults::Refusal;
 use pages::limits::MAX_PAGES;
 use pages::sources::Source;
@@ -18,9 +17,13 @@ use pages::sources::Source;
 pub const MAX_RANGES: usize = 64;
 
 /// Ranges of pages, one after another; with no range, all pages.
-#[derive(Clone, Drop)]
+#[derive(Clone, Copy)]
 pub struct Ranges {
-    given: ArrayVec<Range, MAX_RANGES>,
+    // Fixed memory, and a copy that cannot fail: an array vector is no `Copy`.
+    given: [Range; MAX_RANGES],
+    count: usize,
+    ghost most: { count ≤ max_ranges },
+    ghost long: { length given ≡ max_ranges },
 }
 
 /// A layer that selects pages. An order adds a range, the first in place of all pages, with which the layer starts.
@@ -29,27 +32,34 @@ pub type Select<S> = Layer<S, Ranges>;
 impl Ranges {
     /// The ranges so far.
     pub fn ranges(&self) -> &[Range]
-        ensures all { result.now ≡ self.now.given.items }
+        ensures all { result.now ≡ take self.now.count self.now.given }
         ensures few { length result.now ≤ max_ranges }
     {
-        self.given.as_slice()
+        &self.given[0..self.count]
     }
 
     // The ranges so far, and one more, if there is room for it.
     fn added(&self, range: Range) -> Option<Ranges>
-        ensures { MatchOption result (max_ranges ≤ length self.now.given.items) (λ r. (length self.now.given.items < max_ranges) × (r.given.items ≡ self.now.given.items ++ range ∷ [])) }
+        ensures { let rs = take self.now.count self.now.given in
+            MatchOption result (max_ranges ≤ length rs) (λ r. (length rs < max_ranges) × (take r.count r.given ≡ rs ++ range ∷ [])) }
     {
-        let mut given = ArrayVec::try_from(self.ranges()).ok()?;
-        given.try_push(range).ok()?;
-        Some(Ranges { given })
+        if self.count >= MAX_RANGES {
+            return None;
+        }
+        let mut given = self.given;
+        given[self.count] = range;
+        Some(Ranges {
+            given,
+            count: self.count + 1,
+        })
     }
 
     // Of so many pages, the one that page `page` shows; none where that is a blank.
     fn shown(&self, pages: u32, page: u32) -> Option<u32>
-        ensures { result ≡ unless_blank (slice_index (selected self.now.given.items pages) (page - 1)) }
+        ensures { result ≡ unless_blank (slice_index (selected (take self.now.count self.now.given) pages) (page - 1)) }
     {
         let index = page.saturating_sub(1);
-        if self.given.is_empty() {
+        if self.count == 0 {
             return (index < pages).then_some(index + 1);
         }
         page_at(self.ranges(), index)
@@ -57,7 +67,7 @@ impl Ranges {
 
     // The part of a page; none of a blank.
     fn only_part<S: Source>(&self, below: &S, page: u32) -> Option<Part>
-        ensures { option_to_list result ≡ select_shows self.now.given.items (S.Source.meaning below.now) page }
+        ensures { option_to_list result ≡ select_shows (take self.now.count self.now.given) (S.Source.meaning below.now) page }
     {
         self.shown(below.pages(), page).map(Part::whole)
     }
@@ -66,18 +76,19 @@ impl Ranges {
 impl Rule for Ranges {
     type Order = Range;
 
-    ghost shows = { λ r. select_shows r.given.items };
+    ghost shows = { λ r. select_shows (take r.count r.given) };
 
-    ghost starts = { λ m r x. SelectStarts m r.given.items x };
+    ghost starts = { λ m r x. SelectStarts m (take r.count r.given) x };
 
-    ghost objects = { λ r o m. select_objects r.given.items o m };
+    ghost objects = { λ r o m. select_objects (take r.count r.given) o m };
 
-    ghost takes = { λ r o m s x. SelectTaken r.given.items o m s.given.items x };
+    ghost takes = { λ r o m s x. SelectTaken (take r.count r.given) o m (take s.count s.given) x };
 
     fn start<S: Source>(below: &S) -> Plan<Ranges> {
         Plan {
             rule: Ranges {
-                given: ArrayVec::new(),
+                given: [Range::default(); MAX_RANGES],
+                count: 0,
             },
             extent: Extent::of(below),
         }

@@ -1,5 +1,5 @@
 -- A rule whose kind follows from its orders.
-use Rattle.std.specs.Prelude.{◌≡◌, ℕ, List, [], Option}
+use Rattle.std.specs.Prelude.{◌≡◌, ℕ, List, [], take, Option}
 use Rattle.layers.specs.Layering.{Parts}
 use Rattle.layers.specs.Padding.{PadTaken, pad_objects, pad_shows}
 use Rattle.layers.specs.Reducing.{ReduceTaken, reduce_objects, reduce_shows}
@@ -21,7 +21,7 @@ use Rattle.pile.specs.declared.orders.Order.{Order}
 use Rattle.pile.specs.declared.orders.Order.TheVariants.{Select, Pad, Turn, Reduce, Impose}
 
 abbrev pub given_by : Ranges → List Range
-given_by r = r.given.items
+given_by r = take r.count r.given
 
 -- Each kind shows its pages as its own layer does.
 abbrev pub choice_shows : Choice → Meaning → ℕ → Parts

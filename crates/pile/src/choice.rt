@@ -15,7 +15,7 @@ use signature::imposition::Imposition;
 
 /// A rule of any kind. A layer starts as one that selects all pages; an order of another kind makes it a layer of that
 /// kind, as if newly put on.
-#[derive(Clone, Drop)]
+#[derive(Clone, Copy)]
 pub enum Choice {
     Selecting(Ranges),
     Padding(Blanks),

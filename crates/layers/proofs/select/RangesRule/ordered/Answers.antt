@@ -1,4 +1,4 @@
-use Rattle.std.proofs.Common.{rules, ◌≡◌, ℕ, ◌+◌, ◌<◌, ◌≤◌, false, List, [], ◌∷◌, ◌++◌, length, Some, None, Ok, Err, Option, MatchOption, sym, ap, subst, ◌∙◌, inl, inr, arith, length-append}
+use Rattle.std.proofs.Common.{rules, ◌≡◌, ℕ, ◌+◌, ◌<◌, ◌≤◌, false, List, [], ◌∷◌, ◌++◌, length, take, Some, None, Ok, Err, Option, MatchOption, sym, ap, subst, ◌∙◌, inl, inr, arith, length-append}
 use Rattle.std.specs.Option.{ok_or}
 use Rattle.pages.specs.Meaning.{Meaning}
 use Rattle.pages.specs.declared.faults.Refusal.TheVariants.{TooMany}
@@ -18,7 +18,7 @@ moved_to xs ys n o e h = sym (h ∙ ap (λ (zs : List Range). missing zs n) e)
 
 pub returns-in-Some : goal.returns-in-Some
 returns-in-Some g c =
-    let rs : List Range = c.args.self.now.given.items in
+    let rs : List Range = take c.args.self.now.count c.args.self.now.given in
     let m : Meaning = g.S.Source.meaning c.args.below.now in
     let w : half_blank c.args.order ≡ false = sym c.half_blank.ensures ∙ c.if-half_blank.false in
     old_missing rs c.args.order m c.of-pages.result.pages c.of-pages.ensures.1 w c.in-Some.page
@@ -27,7 +27,7 @@ returns-in-Some g c =
 
 pub returns-in-Some-first_missing : goal.returns-in-Some-first_missing
 returns-in-Some-first_missing g c =
-    let rs : List Range = c.args.self.now.given.items in
+    let rs : List Range = take c.args.self.now.count c.args.self.now.given in
     let m : Meaning = g.S.Source.meaning c.args.below.now in
     let w : half_blank c.args.order ≡ false = sym c.half_blank.ensures ∙ c.if-half_blank.false in
     new_missing rs c.args.order m c.of-pages.result.pages c.of-pages.ensures.1 w
@@ -41,7 +41,7 @@ totals xs rs r t n e f h = omega (arith, total_added rs r, ap (λ (zs : List Ran
 
 pub returns-then-pages : goal.returns-then-pages
 returns-then-pages g c =
-    let rs : List Range = c.args.self.now.given.items in
+    let rs : List Range = take c.args.self.now.count c.args.self.now.given in
     let m : Meaning = g.S.Source.meaning c.args.below.now in
     let w : half_blank c.args.order ≡ false = sym c.half_blank.ensures ∙ c.if-half_blank.false in
     let t = totals c.ranges-3.result.now rs c.args.order c.total.result c.span.result c.ranges-3.ensures.all c.total.ensures c.span.ensures.all in
@@ -61,7 +61,7 @@ given (Some u) e t P Q h m = let k : u ≡ t = cc in subst Q k m
 
 pub returns-in_err-rule : goal.returns-in_err-rule
 returns-in_err-rule g c =
-    let rs : List Range = c.args.self.now.given.items in
+    let rs : List Range = take c.args.self.now.count c.args.self.now.given in
     let m : Meaning = g.S.Source.meaning c.args.below.now in
     let w : half_blank c.args.order ≡ false = sym c.half_blank.ensures ∙ c.if-half_blank.false in
     let a = added rs c.args.order in
@@ -75,17 +75,17 @@ returns-in_err-rule g c =
 
 pub returns : goal.returns
 returns g c =
-    let rs : List Range = c.args.self.now.given.items in
+    let rs : List Range = take c.args.self.now.count c.args.self.now.given in
     let m : Meaning = g.S.Source.meaning c.args.below.now in
     let w : half_blank c.args.order ≡ false = sym c.half_blank.ensures ∙ c.if-half_blank.false in
     let t = totals c.ranges-3.result.now rs c.args.order c.total.result c.span.result c.ranges-3.ensures.all c.total.ensures c.span.ensures.all in
     let s = c.saturating_add-pages.ensures in
     let a = added rs c.args.order in
     let was = c.in_ok-rule.was in
-    let r : (length rs < max_ranges) × (c.in_ok-rule.rule.given.items ≡ rs ++ c.args.order ∷ []) =
+    let r : (length rs < max_ranges) × (take c.in_ok-rule.rule.count c.in_ok-rule.rule.given ≡ rs ++ c.args.order ∷ []) =
     given c.added.result c.new-2.result c.in_ok-rule.rule (max_ranges ≤ length rs) _ (sym c.ok_or.ensures.value ∙ c.in_ok-rule.was) c.added.ensures in
     let old = moved_to c.ranges-2.result.now rs c.of-pages.result.pages None c.ranges-2.ensures.all c.in_default.ensures in
     let new = sym c.in_default-first_missing.ensures in (
       nothing rs c.args.order m c.of-pages.result.pages c.of-pages.ensures.1 w old new (omega (arith, r.0)) (omega (arith, c.if-pages.false)),
-      taken rs c.args.order m c.of-pages.result.pages c.of-pages.ensures.1 w old new c.in_ok-rule.rule.given.items _ r.1 c.of-pages.ensures.0 (omega (arith, c.if-pages.false)),
+      taken rs c.args.order m c.of-pages.result.pages c.of-pages.ensures.1 w old new (take c.in_ok-rule.rule.count c.in_ok-rule.rule.given) _ r.1 c.of-pages.ensures.0 (omega (arith, c.if-pages.false)),
     )
