@@ -41,6 +41,16 @@ impl<S: Source, R: Rule> Layer<S, R> {
         &self.below
     }
 
+    // How the rule shows the pages below.
+    fn view(&self) -> View<'_, S, R>
+        ensures { (result.below.now ≡ self.now.below) × (result.rule.now ≡ self.now.rule) }
+    {
+        View {
+            below: &self.below,
+            rule: &self.rule,
+        }
+    }
+
     /// The rule by which the layer shows its pages.
     pub fn rule(&self) -> &R
         ensures { result.now ≡ self.now.rule }
@@ -72,6 +82,7 @@ impl<S: Source, R: Rule + Drop> Layer<S, R> {
             below: &self.below,
             rule: &plan.rule,
         };
+        // what is found is the refusal, so there is nothing to go on with
         if let Some(page) = view.first_crowded(plan.extent.pages) {
             return Err(Fault::new(Refusal::Crowded, self.depth(), page));
         }
@@ -141,11 +152,7 @@ impl<S: Source, R: Rule> Source for Layer<S, R> {
         if !(1..=self.extent.pages).contains(&page) {
             return Err(Fault::new(Refusal::NoSuch, self.depth(), page));
         }
-        let view = View {
-            below: &self.below,
-            rule: &self.rule,
-        };
-        Ok(view.count(page).min(MAX_PLACEMENTS))
+        Ok(self.view().count(page).min(MAX_PLACEMENTS))
     }
 
     fn place(&self, page: u32, slot: u32) -> Result<Placement, Fault> {
@@ -156,14 +163,11 @@ impl<S: Source, R: Rule> Source for Layer<S, R> {
         if MAX_PLACEMENTS < slot {
             return Err(refused);
         }
-        let view = View {
-            below: &self.below,
-            rule: &self.rule,
-        };
-        view.place(page, slot).ok_or(refused)
+        self.view().place(page, slot).ok_or(refused)
     }
 
     fn length(&self, leaf: u32) -> Result<u32, Fault> {
+        // a refusal from below comes up with its four numbers
         let n = self.below.length(leaf)?;
         Ok(n)
     }

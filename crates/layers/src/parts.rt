@@ -65,7 +65,8 @@ impl Part {
     }
 }
 
-/// Why a rule does not take an order: the kind of refusal, and the page that it concerns, 0 where there is none.
+/// Why a rule does not take an order: the kind of refusal, and the page that it concerns, 0 where there is
+/// none, as in the refusal that is made of it.
 #[derive(Clone, Copy)]
 pub struct Objection {
     pub kind: Refusal,

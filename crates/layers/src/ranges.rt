@@ -3,7 +3,7 @@
 ghost use Rattle.std.specs.Prelude.{◌≡◌, ◌+◌, ◌<◌, ◌≤◌, [], ◌∷◌, length, slice_index};
 ghost use Rattle.layers.specs.Selecting.{all_pages_of, half_blank, max_ranges, missing, pages_of, unless_blank};
 
-/// The pages from one to another, upward or downward; (0, 0) is one blank.
+/// The pages from one to another, upward or downward; (0, 0) is one blank, as an order says it.
 #[derive(Clone, Copy, Default)]
 pub struct Range {
     pub first: u32,
@@ -61,6 +61,7 @@ pub(crate) fn page_at(ranges: &[Range], index: u32) -> Option<u32>
     ensures { result ≡ unless_blank (slice_index (all_pages_of ranges.now) index) }
 {
     let mut rest = index as u64;
+    // goes over whole ranges, however many pages they have
     for range in ranges {
         let span = range.span();
         if rest < span {
@@ -83,6 +84,7 @@ pub(crate) fn total(ranges: &[Range]) -> u64
 pub(crate) fn first_missing(ranges: &[Range], pages: u32) -> Option<u32>
     ensures { result ≡ missing ranges.now pages }
 {
+    // no chain: of `find_map`, and of `find` over all ends, the proof does not find which end it gives
     for range in ranges {
         if let Some(end) = range.missing(pages) {
             return Some(end);

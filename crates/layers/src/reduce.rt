@@ -71,14 +71,13 @@ impl Rule for Ratio {
     }
 
     fn part<S: Source>(&self, below: &S, page: u32, index: u32) -> Option<Part> {
+        // each page has one part: the page below, scaled
         (index == 0).then_some(Part {
             page,
             map: Map {
-                turn: 0,
                 num: self.num,
                 den: self.den,
-                x: 0,
-                y: 0,
+                ..Map::identity()
             },
         })
     }

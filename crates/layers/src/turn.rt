@@ -34,10 +34,9 @@ fn turn_map(q: u8, size: Size) -> Map
     };
     Map {
         turn: q,
-        num: 1,
-        den: 1,
         x: x as i64,
         y: y as i64,
+        ..Map::identity()
     }
 }
 
@@ -92,6 +91,7 @@ impl Rule for Quarters {
     }
 
     fn part<S: Source>(&self, below: &S, page: u32, index: u32) -> Option<Part> {
+        // each page has one part: the page below, turned
         (index == 0).then_some(Part {
             page,
             map: turn_map(self.turn, below.size()),

@@ -11,7 +11,7 @@ use pages::limits::MAX_PLACEMENTS;
 use pages::maps::Placement;
 use pages::sources::Source;
 
-/// A source below, and the rule by which its pages are shown.
+/// A source below, and the rule by which its pages are shown. It has no model: what a source means has functions in it.
 #[derive(Drop)]
 pub(crate) struct View<'a, S: Source, R: Rule> {
     pub(crate) below: &'a S,
@@ -38,6 +38,7 @@ impl<'a, S: Source, R: Rule> View<'a, S, R> {
     pub(crate) fn place(&self, page: u32, slot: u32) -> Option<Placement>
         ensures { let m = S.Source.meaning self.now.below.now in result ≡ slot_at (shown m (R.Rule.shows self.now.rule.now m page)) slot }
     {
+        // whole parts are passed over
         let mut rest = slot;
         for part in self.parts(page) {
             let count = part.count(self.below);

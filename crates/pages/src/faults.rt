@@ -47,7 +47,8 @@ pub enum Refusal {
     ShortPlan,
 }
 
-/// One refusal: its kind, the depth of the layer that refuses, and the page and byte that it concerns, 0 where there is none.
+/// One refusal: its kind, the depth of the layer that refuses, and the page and byte that it concerns, 0 where
+/// there is none: every refusal has four numbers.
 #[derive(Clone, Copy, PartialEq, Eq, Debug)]
 pub struct Fault {
     pub kind: Refusal,

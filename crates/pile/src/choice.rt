@@ -90,6 +90,7 @@ impl Rule for Choice {
         }
     }
 
+    // an enum and no dyn: a rule's methods are generic over the source
     fn count<S: Source>(&self, below: &S, page: u32) -> u32 {
         match self {
             Choice::Selecting(rule) => rule.count(below, page),

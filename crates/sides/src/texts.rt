@@ -36,6 +36,7 @@ pub fn frame_length(side: u32) -> usize
     ensures all { result ≡ length (page_line side) + length showpage }
     ensures few { result ≤ 64 }
 {
+    // without its positions, whose lengths are added up one by one before anything is written
     measure(&page_line(side)) + SHOWPAGE.len()
 }
 

@@ -1,6 +1,7 @@
-use Rattle.std.proofs.Common.{ℕ, ◌≤◌, Err, ap, ◌∙◌, rules}
+use Rattle.std.proofs.Common.{ℕ, ◌≡◌, ◌≤◌, Err, ap, ◌∙◌, rules}
 use Rattle.std.specs.Option.{ok_or}
-use Rattle.pages.specs.Meaning.{Meaning, fault}
+use Rattle.pages.specs.Meaning.{Meaning, fault, slot_at}
+use Rattle.layers.specs.Layering.{shown}
 use Rattle.pages.specs.declared.faults.Fault.{Fault}
 use Rattle.pages.specs.declared.faults.Refusal.TheVariants.{NoSuch}
 use Rattle.layers.proofs.Showing.{place_layered, refused_layered}
@@ -25,6 +26,7 @@ returns g c =
     let v = c.if-not-contains.ensures in
     let a : 1 ≤ c.args.page = search rules in
     let b : c.args.page ≤ s.extent.pages = search rules in
+    let q : c.place.result ≡ slot_at (shown m (g.R.Rule.shows s.rule m c.args.page)) c.args.slot = cc in
     c.ok_or.ensures.value
     ∙ ap (λ (f : Fault). ok_or c.place.result f) (c.new-refused.ensures ∙ ap (λ (d : ℕ). fault NoSuch d c.args.page) c.depth.ensures)
-    ∙ place_layered (g.R.Rule.shows s.rule m) s.extent m c.args.page a b c.args.slot c.place.result c.if-slot-gt-MAX_PLACEMENTS.false c.place.ensures
+    ∙ place_layered (g.R.Rule.shows s.rule m) s.extent m c.args.page a b c.args.slot c.place.result c.if-slot-gt-MAX_PLACEMENTS.false q
