@@ -11,12 +11,11 @@ impl<'a> Opened<'a> {
     fn survey(&self) -> Result<u32, Fault>
         ensures { Surveyed self.now.file.now result }
     {
-        let mut reading = self.inks();
-        // no `for`, which would leave nothing known of the reading
-        while let Some(ink) = reading.next() {
-            ink?;
+        let mut leaves = 0;
+        for ink in self.inks() {
+            leaves = ink?.leaf;
         }
-        Ok(reading.scanner.begun)
+        Ok(leaves)
     }
 
     // Writes the pairs of the inks.
