@@ -19,6 +19,7 @@ impl<'a> Opened<'a> {
         ensures { Verified self.now.file.now index.now result }
     {
         let mut reading = self.inks();
+        // The whole file is read even so: a refusal of the file comes before that of the index.
         let mut same = true;
         // no `for`, which would leave nothing known of the reading
         while let Some(ink) = reading.next() {
@@ -82,10 +83,7 @@ impl<'a> Dsc<'a> {
         let ink = self.span(leaf)?;
         let from = before.offset as usize + before.length as usize;
         let line = &file[from..ink.offset as usize];
-        match kind_of(text(line)).heading() {
-            Some(page) => Ok(page.label),
-            None => unreachable(),
-        }
+        Ok(kind_of(text(line)).heading().unwrap().label)
     }
 
     // The ink of a leaf, as a part of the file.

@@ -61,6 +61,7 @@ impl<'a> Reading<'a> {
         while let Some((line, after)) = first_line(unread) {
             let at = self.at;
             let next = at + line.len() as u32;
+            // A copy, so that a line that is refused leaves the scanner as it was.
             let mut scanner = self.scanner;
             let turn = scanner.line(kind_of(text(line)), at, next)?;
             self.at = next;

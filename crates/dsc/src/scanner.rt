@@ -51,10 +51,8 @@ impl Scanner {
         ensures { result ≡ at_line kind self.now at }
     {
         Fault {
-            kind,
-            layer: 1,
-            page: self.begun,
             offset: at,
+            ..Fault::new(kind, 1, self.begun)
         }
     }
 

@@ -5,18 +5,18 @@ ghost use Rattle.dsc.specs.ScanAnswers.{Surveyed, answered, indexed};
 
 use crate::reading::Opened;
 use pages::faults::{Fault, Refusal};
+use pages::spans::index_numbers;
 
 impl<'a> Opened<'a> {
     // How many leaves the file has, if it is accepted.
     fn survey(&self) -> Result<u32, Fault>
         ensures { Surveyed self.now.file.now result }
     {
-        let mut reading = self.inks();
-        // no `for`, which would leave nothing known of the reading
-        while let Some(ink) = reading.next() {
-            ink?;
+        let mut leaves = 0;
+        for ink in self.inks() {
+            leaves = ink?.leaf;
         }
-        Ok(reading.scanner.begun)
+        Ok(leaves)
     }
 
     // Writes the pairs of the inks.
@@ -42,7 +42,7 @@ pub fn scan(file: &[u8], index: &mut [u32]) -> Result<u32, Fault>
 {
     let file = Opened::new(file)?;
     let leaves = file.survey()?;
-    let room = 2 * leaves as usize + 2;
+    let room = index_numbers(leaves);
     if room > index.len() {
         return Err(Fault::new(Refusal::ShortBuffer, 1, 0));
     }

@@ -31,6 +31,7 @@ pub(crate) fn number(word: &[u8]) -> Option<u32>
     if word.is_empty() || word.len() > 5 {
         return None;
     }
+    // Not parse, which reads a sign and more digits.
     let mut n: u32 = 0;
     for b in word {
         match *b {

@@ -28,10 +28,8 @@ fn examine(file: &[u8]) -> Result<(), Fault>
         let offset = i as u32;
         let page = place.page;
         place = place.next(*b).map_err(|kind| Fault {
-            kind,
-            layer: 1,
-            page,
             offset,
+            ..Fault::new(kind, 1, page)
         })?;
     }
     Ok(())

@@ -5,6 +5,7 @@ ghost use Rattle.std.specs.Prelude.{◌≡◌, ◌≤◌, Ok, length};
 use crate::checked::Checked;
 use crate::page_spans::PREAMBLE;
 use pages::faults::{Fault, Refusal};
+use pages::spans::index_numbers;
 
 /// Writes the spans of the preamble and of each page into an index, which has room for them.
 fn fill(checked: &Checked, index: &mut [u32]) -> Result<(), Fault>
@@ -28,7 +29,7 @@ pub fn scan(file: &[u8], index: &mut [u32]) -> Result<u32, Fault>
 {
     let checked = Checked::new(file)?;
     let pages = checked.pages();
-    if index.len() < 2 * (1 + pages as usize) {
+    if index.len() < index_numbers(pages) {
         return Err(Fault::new(Refusal::ShortBuffer, 1, 0));
     }
     fill(&checked, index)?;

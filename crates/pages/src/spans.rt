@@ -40,3 +40,10 @@ impl Span {
         Ok(())
     }
 }
+
+/// How many numbers an index has: a pair for the preamble, and one for each of so many leaves.
+pub fn index_numbers(leaves: u32) -> usize
+    ensures { result ≡ 2 * leaves + 2 }
+{
+    2 * (1 + leaves as usize)
+}

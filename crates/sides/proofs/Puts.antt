@@ -1,5 +1,5 @@
 -- What a lent buffer holds after a text.
-use Rattle.std.proofs.Common.{◌≡◌, ℕ, ◌+◌, ◌^◌, ◌<◌, Bool, true, false, leb, List, length, None, Option, is_some, sym, ap, subst, arith}
+use Rattle.std.proofs.Common.{◌≡◌, ℕ, ◌+◌, ◌^◌, ◌<◌, Bool, true, false, leb, List, length, None, sym, arith}
 use Rattle.std.proofs.lemmas.Bool.{cond-false, lt-leb}
 use Rattle.pages.specs.Meaning.{written}
 use Rattle.text.specs.Pieces.{place_after}
@@ -12,10 +12,6 @@ use Rattle.sides.specs.Puts.{Begun, Whole}
 pub counted : (s t : Counter) (text : List ℕ) (fit : Bool) → s.count ≡ 0 → length text < 2 ^ 64 → sink.Counted s text fit t → t.count ≡ length text
 counted s t text true z h p = omega arith
 counted s t text false z h p = absurd (omega arith)
-
--- a text that did not fit
-pub not_filled : {s t : Lent} {A : Type 0} {r : Option A} (text : List ℕ) → r ≡ None → sink.Begun s text t → sink.Filled s text (is_some r) t
-not_filled {s} {t} text n p = subst (λ fit. sink.Filled s text fit t) (sym (ap is_some n)) p
 
 module _ (s t : Lent) (text : List ℕ) where
   pub whole : sink.Whole s text t → Whole s.buffer.now s.at text t.buffer.now t.at

@@ -30,6 +30,7 @@ pub fn position_length<S: Source>(below: &S, position: &Part) -> usize
     ensures few { result ≤ max_position }
 {
     let mut counter = Counter { count: 0 };
+    // A count of so few bytes cannot fail.
     put_position(&mut counter, below, position);
     counter.count
 }

@@ -100,6 +100,7 @@ pub fn opening_length<S: Source>(source: &S) -> usize
     ensures few { result ≤ max_block }
 {
     let mut counter = Counter { count: 0 };
+    // A count of so few bytes cannot fail.
     put_opening(&mut counter, source);
     counter.count
 }

@@ -2,6 +2,8 @@
 
 ghost use Rattle.std.specs.Prelude.{◌≡◌, ℕ, ◌^◌, ◌<◌, ◌≤◌, Bool, true, false, [], List, ◌++◌, is_some, length};
 
+use pages::sources::write;
+
 /// What takes the bytes of a text, as far as they fit.
 pub trait Sink {
     // A sink, the bytes that it was given, whether they fitted, and the sink afterwards.
@@ -67,12 +69,7 @@ impl<'a> Sink for Lent<'a> {
     ghost short = { filled_short };
 
     fn take(&mut self, bytes: &[u8]) -> Option<()> {
-        if self.buffer.len() - self.at < bytes.len() {
-            return None;
-        }
-        let end = self.at + bytes.len();
-        self.buffer[self.at..end].copy_from_slice(bytes);
-        self.at = end;
+        self.at = write(bytes, self.buffer, self.at).ok()?;
         Some(())
     }
 }

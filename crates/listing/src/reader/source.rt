@@ -59,11 +59,7 @@ impl<'a> Source for Listing<'a> {
     }
 
     fn length(&self, leaf: u32) -> Result<u32, Fault> {
-        let page = self.page(leaf)?;
-        match page {
-            None => Ok(0),
-            Some(bytes) => Ok(ink_length(bytes) as u32),
-        }
+        Ok(self.page(leaf)?.map_or(0, ink_length) as u32)
     }
 
     fn pour(&self, leaf: u32, buffer: &mut [u8], at: usize) -> Result<usize, Fault> {

@@ -3,9 +3,9 @@ use Rattle.std.specs.Result.{result_ok}
 use Rattle.text.specs.Sinking.{filled_nothing}
 use Rattle.text.specs.Sinks.{Filled}
 use Rattle.text.specs.Splicing.{splice_none}
+use Rattle.text.proofs.Taking.{not_filled}
 use Rattle.sides.specs.Texts.{ink_of}
 use Rattle.sides.proofs.Leaves.{no_ink, unpoured}
-use Rattle.sides.proofs.Puts.{not_filled}
 use Rattle.sides.proofs.inks.LentInkSink.take_ink.Goals as goal
 
 pub returns-then-leaves-leaf : goal.returns-then-leaves-leaf
