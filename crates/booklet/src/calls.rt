@@ -76,9 +76,8 @@ impl<'a> Task for Carried<'a> {
 /// How many bytes of buffer a call can use at most.
 fn room(call: &Call) -> usize {
     match call {
-        Call::Print { room } | Call::Opening { room } | Call::Ending { room } => *room,
-        Call::Pour { leaf: _, at, room } => at.saturating_add(MAX_INK as usize).min(*room),
-        _ => 0,
+        Call::Pour { at, room, .. } => at.saturating_add(MAX_INK as usize).min(*room),
+        _ => call.room(),
     }
 }
 
