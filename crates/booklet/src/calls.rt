@@ -7,7 +7,6 @@ use crate::output::{Lines, Target, Texts};
 use crate::piles::{Pile, Task};
 use books::carry_out;
 use books::output::Output;
-use fold::{Signature, Word};
 use pages::limits::MAX_INK;
 use pages::sources::Source;
 use runs::calls::Call;
@@ -83,7 +82,7 @@ fn room(call: &Call) -> usize {
 
 /// How many records the sides that stand printed have; None where the order makes no signature.
 fn records_of(order: Scheme, printed: u32) -> Option<usize> {
-    let signature = Signature::new(Word::scheme(order.number)?, order.sheets)?;
+    let signature = order.signature()?;
     Some((printed as usize).saturating_mul(signature.cells() as usize))
 }
 
