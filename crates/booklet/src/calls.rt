@@ -7,7 +7,6 @@ use crate::output::{Lines, Target, Texts};
 use crate::piles::{Pile, Task};
 use books::carry_out;
 use books::output::Output;
-use fold::{Signature, Word};
 use pages::limits::MAX_INK;
 use pages::sources::Source;
 use runs::calls::Call;
@@ -76,15 +75,14 @@ impl<'a> Task for Carried<'a> {
 /// How many bytes of buffer a call can use at most.
 fn room(call: &Call) -> usize {
     match call {
-        Call::Print { room } | Call::Opening { room } | Call::Ending { room } => *room,
-        Call::Pour { leaf: _, at, room } => at.saturating_add(MAX_INK as usize).min(*room),
-        _ => 0,
+        Call::Pour { at, room, .. } => at.saturating_add(MAX_INK as usize).min(*room),
+        _ => call.room(),
     }
 }
 
 /// How many records the sides that stand printed have; None where the order makes no signature.
 fn records_of(order: Scheme, printed: u32) -> Option<usize> {
-    let signature = Signature::new(Word::scheme(order.number)?, order.sheets)?;
+    let signature = order.signature()?;
     Some((printed as usize).saturating_mul(signature.cells() as usize))
 }
 

@@ -46,10 +46,7 @@ impl fmt::Display for Letter {
     ghost output = { λ letter. Some (code letter ∷ []) };
 
     fn fmt<W: fmt::Write>(&self, f: &mut fmt::Formatter<W>) -> fmt::Result {
-        f.write_str(match self {
-            Letter::W => "W",
-            Letter::N => "N",
-        })
+        write!(f, "{}", char::from(*self))
     }
 }
 

@@ -47,6 +47,13 @@ fn shown(signature: &Signature, side: u32, row: u32, column: u32) -> Option<Cell
 }
 
 impl<S: Source> Job<S> {
+    // The signature by which the sides are laid; None before the layer's first order.
+    fn signature(&self) -> Option<Signature>
+        ensures { result ≡ self.now.layer.rule.signature }
+    {
+        self.layer.rule().signature()
+    }
+
     // A refusal of the job itself.
     fn refused(&self, kind: Refusal, page: u32) -> Fault
         ensures { result ≡ fault kind (job_depth (job_book S.meaning self.now)) page }
@@ -64,7 +71,7 @@ impl<S: Source> Job<S> {
             × (next.text.positions.items ≡ impose_shows self.now.layer.rule.signature (S.meaning self.now.layer.below) (self.now.printed + 1)))
             (λ kind. print_refusal (job_book S.meaning self.now) self.now.printed room list ≡ Some kind) }
     {
-        let signature = self.layer.rule().signature().ok_or(Refusal::Finished)?;
+        let signature = self.signature().ok_or(Refusal::Finished)?;
         if self.layer.pages() <= self.printed {
             return Err(Refusal::Finished);
         }
@@ -83,20 +90,15 @@ impl<S: Source> Job<S> {
     pub fn sides(&self) -> u32
         ensures { result ≡ sides (job_book S.meaning self.now) }
     {
-        self.layer
-            .rule()
-            .signature()
-            .map_or(0, |_| self.layer.pages())
+        self.signature().map_or(0, |_| self.layer.pages())
     }
 
     /// How many records the plan of the whole book has: one for each position of each side.
     pub fn plan_length(&self) -> usize
         ensures { result ≡ sides (job_book S.meaning self.now) * per_side (job_book S.meaning self.now) }
     {
-        self.layer.rule().signature().map_or(
-            0,
-            |signature| self.layer.pages() as usize * signature.cells() as usize,
-        )
+        let cells = self.signature().map_or(0, |signature| signature.cells());
+        self.sides() as usize * cells as usize
     }
 
     // How many bytes the text of a side has.
@@ -136,6 +138,7 @@ impl<S: Source> Job<S> {
             .next(buffer.len(), plan.len())
             .map_err(|kind| self.refused(kind, 0))?;
         let before = self.printed as usize * next.signature.cells() as usize;
+        // Both fit, as next has found.
         let length = next.text.write(self.layer.covered(), buffer).unwrap();
         put_records(&next.signature, next.text.side, plan, before).unwrap();
         self.printed = next.text.side;
@@ -179,7 +182,7 @@ impl<S: Source> Job<S> {
         ensures { result ≡ cell_at (job_book S.meaning self.now) side row column }
     {
         let missing = self.refused(Refusal::NoSuch, side);
-        let signature = self.layer.rule().signature().ok_or(missing)?;
+        let signature = self.signature().ok_or(missing)?;
         if self.layer.pages() < side {
             return Err(missing);
         }

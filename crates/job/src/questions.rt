@@ -1,4 +1,4 @@
-//! The questions of the Signature layer, asked of the job. An `impl Source` would write the same eight methods.
+//! The questions of the Signature layer, which a job answers by name; layer gives the layer itself.
 
 ghost use Rattle.job.specs.Books.{job_book, sheets};
 ghost use Rattle.pages.specs.Meaning.{laid_at, length_at, place_at, pour_at, poured, size_of};

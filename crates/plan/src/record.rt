@@ -5,7 +5,8 @@ ghost use Rattle.std.specs.Prelude.{Some};
 
 use std::fmt;
 
-/// A position of a side, and what it shows. All numbers but the mark count from 1.
+/// A position of a side, and what it shows. All numbers but the mark count from 1. Plain numbers, since
+/// a plan list may hold anything.
 #[derive(Clone, Copy, PartialEq, Eq, Debug, Default)]
 pub struct Record {
     /// The signature, and the sheet in it.

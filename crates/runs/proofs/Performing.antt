@@ -13,7 +13,7 @@ use Rattle.plan.specs.declared.record.Record.{Record}
 use Rattle.job.specs.Calls.{pullable, pulled}
 use Rattle.runs.specs.Editions.{Edition, Prints, Writes, depth_of, print_refusal, pull_back, state}
 use Rattle.runs.specs.Replies.{reply, reply_by, reply_to, print_reply, pull_reply, text_reply, pour_reply, after, is_print, room_of, start_of}
-use Rattle.runs.specs.Steps.{silently, Does, Said}
+use Rattle.runs.specs.Steps.{silently, Does, Said, Told}
 use Rattle.runs.specs.declared.calls.Answer.{Answer}
 use Rattle.runs.specs.declared.calls.Answer.TheVariants.{Printed, PulledBack, Opened, Ended, Poured, Refused}
 use Rattle.runs.specs.declared.calls.Call.{Call}
@@ -111,23 +111,27 @@ asked n b p a r i q h = silent n n b p a r i h (sym (q.same n)) q.unprinted
 quiet_refusal : (f : Fault) → Quiet (Refused f)
 quiet_refusal f = record { same = λ n. refl; unprinted = refl }
 
-pub asked_by : {e : Edition} {c : Call} {T : Type 0} (say : T → Answer) → ((v : T) → Quiet (say v)) → (n : ℕ) (b : List ℕ) (p : List Record) (v : Result T Fault) (a : Answer) (r : Done)
-    → r ≡ silently a → MatchResult v (λ x. a ≡ say x) (λ x. a ≡ Refused x) → reply_by say v ≡ reply_to e (length b) (length p) n c → Does e c (state n b p) (state n b p) r
-asked_by say q n b p (Ok x) a r i m h = asked n b p a r i (subst Quiet (sym m) (q x)) (ap (λ z. reply z []) m ∙ h)
-asked_by say q n b p (Err x) a r i m h = asked n b p a r i (subst Quiet (sym m) (quiet_refusal x)) (ap (λ z. reply z []) m ∙ h)
+pub asked_by : {e : Edition} {c : Call} {T : Type 0} (say : T → Answer) → ((v : T) → Quiet (say v)) → (n : ℕ) (b : List ℕ) (p : List Record) (v : Result T Fault) (r : Done)
+    → Told (λ x a. a ≡ say x) v r → reply_by say v ≡ reply_to e (length b) (length p) n c → Does e c (state n b p) (state n b p) r
+asked_by say q n b p (Ok x) r m h = asked n b p r.answer r m.1 (subst Quiet (sym m.0) (q x)) (ap (λ z. reply z []) m.0 ∙ h)
+asked_by say q n b p (Err f) r m h = asked n b p (Refused f) r m (quiet_refusal f) h
 
-pub pull_does : (e : Edition) (n n' s : ℕ) (b : List ℕ) (p : List Record) (v : Result (Unit {0}) Fault) (a : Answer) (r : Done)
-    → r ≡ silently a → MatchResult v (λ x. a ≡ PulledBack s) (λ x. a ≡ Refused x) → v ≡ pull_back e n s → n' ≡ pulled n s → Does e (PullBack s) (state n b p) (state n' b p) r
-pull_does e n n' s b p v a r i m h k =
+pub pull_does : (e : Edition) (n n' s : ℕ) (b : List ℕ) (p : List Record) (v : Result (Unit {0}) Fault) (r : Done)
+    → Told (λ x a. a ≡ PulledBack s) v r → v ≡ pull_back e n s → n' ≡ pulled n s → Does e (PullBack s) (state n b p) (state n' b p) r
+pull_does e n n' s b p v r m h k =
     let x = pulls (pullable n s) v m h k in
-    silent n n' b p a r i (x.0 ∙ ap (pull_reply s) h) x.1 x.2
+    silent n n' b p r.answer r (quietly v m) (x.0 ∙ ap (pull_reply s) h) x.1 x.2
   where
-    pulls : (t : Bool) (v : Result (Unit {0}) Fault) → MatchResult v (λ x. a ≡ PulledBack s) (λ x. a ≡ Refused x) → v ≡ cond t (Ok tt) (Err (fault NoSuch (depth_of e) s)) → n' ≡ cond t (s - 1) n
-        → (reply a [] ≡ pull_reply s v) × (n' ≡ after n a) × (is_print a ≡ false)
-    pulls true (Ok x) m h k = (ap (λ z. reply z []) m, k ∙ ap (after n) (sym m), ap is_print m)
+    quietly : (v : Result (Unit {0}) Fault) → Told (λ x a. a ≡ PulledBack s) v r → r ≡ silently r.answer
+    quietly (Ok x) m = m.1
+    quietly (Err f) m = m ∙ sym (ap (λ (z : Done). silently z.answer) m)
+
+    pulls : (t : Bool) (v : Result (Unit {0}) Fault) → Told (λ x a. a ≡ PulledBack s) v r → v ≡ cond t (Ok tt) (Err (fault NoSuch (depth_of e) s)) → n' ≡ cond t (s - 1) n
+        → (reply r.answer [] ≡ pull_reply s v) × (n' ≡ after n r.answer) × (is_print r.answer ≡ false)
+    pulls true (Ok x) m h k = (ap (λ z. reply z []) m.0, k ∙ ap (after n) (sym m.0), ap is_print m.0)
     pulls true (Err x) m h k = let z : ◌≡◌ {A = ℕ} 0 1 = cc in absurd (omega arith)
     pulls false (Ok x) m h k = let z : ◌≡◌ {A = ℕ} 0 1 = cc in absurd (omega arith)
-    pulls false (Err x) m h k = (ap (λ z. reply z []) m, k ∙ ap (after n) (sym m), ap is_print m)
+    pulls false (Err x) m h k = let said : r.answer ≡ Refused x = ap (λ (z : Done). z.answer) m in (ap (λ z. reply z []) said, k ∙ ap (after n) (sym said), ap is_print said)
 
 -- ---- an answer that speaks of a text
 

@@ -19,6 +19,11 @@ abbrev pub Said : (ℕ → Answer → Type 0) → ℕ → Result ℕ Fault → D
 Said say at (Ok end) r = say end r.answer × (r.text.start ≡ at) × (r.text.end ≡ end)
 Said say at (Err f) r = r ≡ silently (Refused f)
 
+-- an answer that `say` gives, or a refusal: neither speaks of a text
+abbrev pub Told : {T : Type 0} → (T → Answer → Type 0) → Result T Fault → Done → Type 0
+Told say (Ok x) r = say x r.answer × (r ≡ silently r.answer)
+Told say (Err f) r = r ≡ silently (Refused f)
+
 -- the call did what the rules say, and its text lies in the buffer
 pub record Does (b : Edition) (c : Call) (x x' : State) (r : Done) : Type 0 where
   pub within : (r.text.start ≤ r.text.end) × (r.text.end ≤ length x.buffer)

@@ -35,7 +35,7 @@ pub enum Call {
 
 impl Call {
     /// How many bytes of the buffer, from its start, the call may use.
-    pub(crate) fn room(&self) -> usize
+    pub fn room(&self) -> usize
         ensures { result ≡ room_of self.now }
     {
         match *self {

@@ -1,7 +1,7 @@
 //! What a call has done.
 
 ghost use Rattle.std.specs.Prelude.{◌≡◌};
-ghost use Rattle.runs.specs.Steps.{Said, silently};
+ghost use Rattle.runs.specs.Steps.{Said, Told, silently};
 
 use crate::calls::Answer;
 use pages::faults::Fault;
@@ -33,6 +33,17 @@ pub(crate) fn said<F: FnOnce(usize) -> Answer>(at: usize, end: Result<usize, Fau
             answer: say(end),
             text: at..end,
         },
+        Err(fault) => Done::from(Answer::Refused(fault)),
+    }
+}
+
+/// What a call has done that was answered without a text.
+pub(crate) fn told<T, F: FnOnce(T) -> Answer>(answer: Result<T, Fault>, say: F) -> Done
+    requires { F.IsAlwaysCallable say }
+    ensures { Told (F.post say) answer result }
+{
+    match answer {
+        Ok(value) => Done::from(say(value)),
         Err(fault) => Done::from(Answer::Refused(fault)),
     }
 }

@@ -5,7 +5,7 @@ ghost use Rattle.runs.specs.Logs.{Carried, history};
 ghost use Rattle.runs.specs.Steps.{Does, Lent, Sized, state_of};
 
 use crate::calls::{Answer, Call};
-use crate::done::{Done, said};
+use crate::done::{Done, said, told};
 use crate::log::Log;
 use crate::printer::Printer;
 use crate::session::Session;
@@ -25,41 +25,24 @@ impl<'a, P: Printer> Session<'a, P> {
         let front = &mut self.buffer[..end];
         match call {
             Call::Print { .. } => said(0, self.printer.print(front, self.plan), Answer::Printed),
-            Call::PullBack { side } => Done::from(
-                self.printer
-                    .pull_back(side)
-                    .map_or_else(Answer::Refused, |()| Answer::PulledBack(side)),
-            ),
+            Call::PullBack { side } => {
+                told(self.printer.pull_back(side), |()| Answer::PulledBack(side))
+            }
             Call::Opening { .. } => said(0, self.printer.opening(front), Answer::Opened),
             Call::Ending { .. } => said(0, self.printer.ending(front), Answer::Ended),
             Call::HowFar => Done::from(Answer::Counted(self.printer.how_far())),
-            Call::Cell { side, row, column } => Done::from(
-                self.printer
-                    .cell(side, row, column)
-                    .map_or_else(Answer::Refused, Answer::Shown),
-            ),
+            Call::Cell { side, row, column } => {
+                told(self.printer.cell(side, row, column), Answer::Shown)
+            }
             Call::Size => Done::from(Answer::Measured(self.printer.sheets().size())),
             Call::Leaves => Done::from(Answer::Number(self.printer.sheets().leaves())),
             Call::Pages => Done::from(Answer::Number(self.printer.sheets().pages())),
             Call::Depth => Done::from(Answer::Number(u32::from(self.printer.sheets().depth()))),
-            Call::Laid { page } => Done::from(
-                self.printer
-                    .sheets()
-                    .laid(page)
-                    .map_or_else(Answer::Refused, Answer::Number),
-            ),
-            Call::Place { page, slot } => Done::from(
-                self.printer
-                    .sheets()
-                    .place(page, slot)
-                    .map_or_else(Answer::Refused, Answer::Placed),
-            ),
-            Call::Length { leaf } => Done::from(
-                self.printer
-                    .sheets()
-                    .length(leaf)
-                    .map_or_else(Answer::Refused, Answer::Number),
-            ),
+            Call::Laid { page } => told(self.printer.sheets().laid(page), Answer::Number),
+            Call::Place { page, slot } => {
+                told(self.printer.sheets().place(page, slot), Answer::Placed)
+            }
+            Call::Length { leaf } => told(self.printer.sheets().length(leaf), Answer::Number),
             Call::Pour { leaf, at, .. } => {
                 said(
                     at,

@@ -1,7 +1,8 @@
 //! The rule of the Signature layer.
 
-ghost use Rattle.std.specs.Prelude.{◌≡◌, ◌≤◌, [], MatchOption};
-ghost use Rattle.fold.specs.Signatures.{letters_of};
+ghost use Rattle.std.specs.Prelude.{◌≡◌, ◌≤◌, [], Some, MatchOption};
+ghost use Rattle.fold.specs.Signatures.{Thick, letters_of};
+ghost use Rattle.fold.specs.Words.{Letters, scheme};
 ghost use Rattle.signature.specs.Imposing.{Imposed, Unimposed, impose_objects, impose_shows, positions, sides_of};
 
 use crate::laid_side::LaidSide;
@@ -20,6 +21,17 @@ use pages::sources::Source;
 pub struct Scheme {
     pub number: u32,
     pub sheets: u32,
+}
+
+impl Scheme {
+    /// The signature that the order names; None where there is no such scheme or number of sheets.
+    pub fn signature(self) -> Option<Signature>
+        ensures { MatchOption result
+            ((w : Letters) → scheme self.number ≡ Some w → Thick self.sheets → ⊥)
+            (λ s. (scheme self.number ≡ Some (letters_of s)) × (s.sheets ≡ self.sheets)) }
+    {
+        Signature::new(Word::scheme(self.number)?, self.sheets)
+    }
 }
 
 /// How the pages below are laid on sides: by a signature, which takes the next pages as often as it is repeated; None
@@ -86,9 +98,9 @@ impl Rule for Imposition {
     }
 
     fn ordered<S: Source>(&self, below: &S, order: Scheme) -> Result<Plan<Imposition>, Objection> {
-        let unknown = Objection::new(Refusal::BadOrder, 0);
-        let word = Word::scheme(order.number).ok_or(unknown)?;
-        let signature = Signature::new(word, order.sheets).ok_or(unknown)?;
+        let signature = order
+            .signature()
+            .ok_or(Objection::new(Refusal::BadOrder, 0))?;
         let Extent { size, pages } = Extent::of(below);
         if pages % signature.pages() != 0 {
             return Err(Objection::new(Refusal::Uneven, 0));

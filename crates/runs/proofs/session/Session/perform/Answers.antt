@@ -20,7 +20,7 @@ returns-in-PullBack-clause-does g c =
     let b = s.buffer.now in
     let end = c.min-end.result in
     let n = g.P.Printer.printed s.printer.now in
-    did c.in-PullBack.is b (take end b) end (omega (arith, c.min-end.ensures, c.room.ensures)) refl (λ few. pull_does (g.P.Printer.edition s.printer.now) n _ c.in-PullBack.side (take end b) s.plan.now c.pull_back.result c.map_or_else.result c.from.result c.from.ensures (search rules) c.pull_back.ensures.answer c.pull_back.ensures.count)
+    did c.in-PullBack.is b (take end b) end (omega (arith, c.min-end.ensures, c.room.ensures)) refl (λ few. pull_does (g.P.Printer.edition s.printer.now) n _ c.in-PullBack.side (take end b) s.plan.now c.pull_back.result c.told.result (search rules) c.pull_back.ensures.answer c.pull_back.ensures.count)
 
 pub returns-in-Opening-clause-does : goal.returns-in-Opening-clause-does
 returns-in-Opening-clause-does g c =
@@ -44,7 +44,7 @@ returns-in-HowFar-clause-does g c =
     let b = s.buffer.now in
     let end = c.min-end.result in
     let n = g.P.Printer.printed s.printer.now in
-    did c.in-HowFar.is b (take end b) end (omega (arith, c.min-end.ensures, c.room.ensures)) refl (λ few. asked n (take end b) s.plan.now (Counted c.how_far.result) c.from-in-HowFar.result c.from-in-HowFar.ensures (record { same = λ n. refl; unprinted = refl }) (ap (λ z. reply (Counted z) []) c.how_far.ensures))
+    did c.in-HowFar.is b (take end b) end (omega (arith, c.min-end.ensures, c.room.ensures)) refl (λ few. asked n (take end b) s.plan.now (Counted c.how_far.result) c.from.result c.from.ensures (record { same = λ n. refl; unprinted = refl }) (ap (λ z. reply (Counted z) []) c.how_far.ensures))
 
 pub returns-in-Size-clause-does : goal.returns-in-Size-clause-does
 returns-in-Size-clause-does g c =
@@ -84,7 +84,7 @@ returns-in-Cell-clause-does g c =
     let b = s.buffer.now in
     let end = c.min-end.result in
     let n = g.P.Printer.printed s.printer.now in
-    did c.in-Cell.is b (take end b) end (omega (arith, c.min-end.ensures, c.room.ensures)) refl (λ few. asked_by Shown (λ x. record { same = λ n. refl; unprinted = refl }) n (take end b) s.plan.now c.cell.result c.map_or_else-in-Cell.result c.from-in-Cell.result c.from-in-Cell.ensures c.map_or_else-in-Cell.ensures (ap (reply_by Shown) c.cell.ensures))
+    did c.in-Cell.is b (take end b) end (omega (arith, c.min-end.ensures, c.room.ensures)) refl (λ few. asked_by Shown (λ x. record { same = λ n. refl; unprinted = refl }) n (take end b) s.plan.now c.cell.result c.told-in-Cell.result c.told-in-Cell.ensures (ap (reply_by Shown) c.cell.ensures))
 
 pub returns-in-Laid-clause-does : goal.returns-in-Laid-clause-does
 returns-in-Laid-clause-does g c =
@@ -92,7 +92,7 @@ returns-in-Laid-clause-does g c =
     let b = s.buffer.now in
     let end = c.min-end.result in
     let n = g.P.Printer.printed s.printer.now in
-    did c.in-Laid.is b (take end b) end (omega (arith, c.min-end.ensures, c.room.ensures)) refl (λ few. asked_by Number (λ x. record { same = λ n. refl; unprinted = refl }) n (take end b) s.plan.now c.laid.result c.map_or_else-in-Laid.result c.from-in-Laid.result c.from-in-Laid.ensures c.map_or_else-in-Laid.ensures (ap (reply_by Number) (c.laid.ensures ∙ ap (λ (m : Meaning). laid_at m c.in-Laid.page) c.sheets-in-Laid.ensures)))
+    did c.in-Laid.is b (take end b) end (omega (arith, c.min-end.ensures, c.room.ensures)) refl (λ few. asked_by Number (λ x. record { same = λ n. refl; unprinted = refl }) n (take end b) s.plan.now c.laid.result c.told-in-Laid.result c.told-in-Laid.ensures (ap (reply_by Number) (c.laid.ensures ∙ ap (λ (m : Meaning). laid_at m c.in-Laid.page) c.sheets-in-Laid.ensures)))
 
 pub returns-in-Place-clause-does : goal.returns-in-Place-clause-does
 returns-in-Place-clause-does g c =
@@ -100,7 +100,7 @@ returns-in-Place-clause-does g c =
     let b = s.buffer.now in
     let end = c.min-end.result in
     let n = g.P.Printer.printed s.printer.now in
-    did c.in-Place.is b (take end b) end (omega (arith, c.min-end.ensures, c.room.ensures)) refl (λ few. asked_by Placed (λ x. record { same = λ n. refl; unprinted = refl }) n (take end b) s.plan.now c.place.result c.map_or_else-in-Place.result c.from-in-Place.result c.from-in-Place.ensures c.map_or_else-in-Place.ensures (ap (reply_by Placed) (c.place.ensures ∙ ap (λ (m : Meaning). place_at m c.in-Place.page c.in-Place.slot) c.sheets-in-Place.ensures)))
+    did c.in-Place.is b (take end b) end (omega (arith, c.min-end.ensures, c.room.ensures)) refl (λ few. asked_by Placed (λ x. record { same = λ n. refl; unprinted = refl }) n (take end b) s.plan.now c.place.result c.told-in-Place.result c.told-in-Place.ensures (ap (reply_by Placed) (c.place.ensures ∙ ap (λ (m : Meaning). place_at m c.in-Place.page c.in-Place.slot) c.sheets-in-Place.ensures)))
 
 pub returns-in-Length-clause-does : goal.returns-in-Length-clause-does
 returns-in-Length-clause-does g c =
@@ -108,7 +108,7 @@ returns-in-Length-clause-does g c =
     let b = s.buffer.now in
     let end = c.min-end.result in
     let n = g.P.Printer.printed s.printer.now in
-    did c.in-Length.is b (take end b) end (omega (arith, c.min-end.ensures, c.room.ensures)) refl (λ few. asked_by Number (λ x. record { same = λ n. refl; unprinted = refl }) n (take end b) s.plan.now c.length.result c.map_or_else-in-Length.result c.from-in-Length.result c.from-in-Length.ensures c.map_or_else-in-Length.ensures (ap (reply_by Number) (c.length.ensures ∙ ap (λ (m : Meaning). length_at m c.in-Length.leaf) c.sheets-in-Length.ensures)))
+    did c.in-Length.is b (take end b) end (omega (arith, c.min-end.ensures, c.room.ensures)) refl (λ few. asked_by Number (λ x. record { same = λ n. refl; unprinted = refl }) n (take end b) s.plan.now c.length.result c.told-in-Length.result c.told-in-Length.ensures (ap (reply_by Number) (c.length.ensures ∙ ap (λ (m : Meaning). length_at m c.in-Length.leaf) c.sheets-in-Length.ensures)))
 
 pub returns-in-Pour-clause-does : goal.returns-in-Pour-clause-does
 returns-in-Pour-clause-does g c =
