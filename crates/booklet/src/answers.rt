@@ -1,12 +1,15 @@
 //! Answers of calls as they are printed.
+use crate::output::Content;
 use fold::Cell;
 use pages::maps::Placement;
 use runs::calls::Answer;
-use std::fmt;
+use runs::log::Entry;
+use std::io::Write;
+use std::{fmt, io};
 
 /// An answer that is printed.
 #[derive(Drop)]
-pub struct Said(pub Answer);
+struct Said(Answer);
 
 impl fmt::Display for Said {
     fn fmt<W: fmt::Write>(&self, f: &mut fmt::Formatter<W>) -> fmt::Result {
@@ -23,5 +26,18 @@ impl fmt::Display for Said {
             Answer::Poured(end) => write!(f, "poured {end}"),
             Answer::Refused(fault) => write!(f, "refused {fault}"),
         }
+    }
+}
+
+/// The answers that a log has, one on each line.
+#[derive(Drop)]
+pub struct Answers<'a>(pub &'a [Entry]);
+
+impl<'a> Content for Answers<'a> {
+    fn write<W: Write>(&self, out: &mut W) -> io::Result<()> {
+        for entry in self.0 {
+            writeln!(out, "{}", Said(entry.answer))?;
+        }
+        Ok(())
     }
 }

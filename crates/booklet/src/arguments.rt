@@ -1,5 +1,6 @@
 //! The words of the command line.
 use crate::calls::Carry;
+use crate::chart::Chart;
 use crate::failure::Failure;
 use crate::help;
 use crate::input::{Format, Input};
@@ -18,7 +19,7 @@ use std::alloc::Global;
 pub enum Command {
     /// A text about the program itself.
     Help(&'static str),
-    Fold { plan: bool, signature: Signature },
+    Fold { chart: Chart, signature: Signature },
     Check(Input),
     Pages(Pile),
     Make { pile: Pile, make: Make },
@@ -40,7 +41,7 @@ fn signature(heap: Global, scheme: &str, sheets: &str) -> Result<Signature, Fail
 }
 
 /// The command of the words after `fold`.
-fn fold(heap: Global, plan: bool, names: &[String]) -> Result<Command, Failure> {
+fn fold(heap: Global, chart: Chart, names: &[String]) -> Result<Command, Failure> {
     let [scheme, sheets] = names else {
         return Err(Failure::TooFewWords(
             Verb::Fold,
@@ -48,7 +49,7 @@ fn fold(heap: Global, plan: bool, names: &[String]) -> Result<Command, Failure> 
         ));
     };
     let signature = signature(heap, scheme.as_str(), sheets.as_str())?;
-    Ok(Command::Fold { plan, signature })
+    Ok(Command::Fold { chart, signature })
 }
 
 /// The file that a command reads.
@@ -68,10 +69,16 @@ fn layered(
     Ok(Pile { input, orders })
 }
 
-/// The order of the last layer, which has to be the Signature layer, taken off the list.
-fn last_scheme(verb: Verb, orders: &mut Vec<Order>) -> Result<Scheme, Failure> {
-    match orders.pop() {
-        Some(Order::Impose(scheme)) => Ok(scheme),
+/// The file with its layers but the last, and the order of that one, which has to be the Signature layer.
+fn imposed(
+    verb: Verb,
+    format: Format,
+    names: Vec<String>,
+    orders: Vec<Order>,
+) -> Result<(Pile, Scheme), Failure> {
+    let mut pile = layered(verb, format, names, orders)?;
+    match pile.orders.pop() {
+        Some(Order::Impose(scheme)) => Ok((pile, scheme)),
         _ => Err(Failure::NoSignature(verb)),
     }
 }
@@ -80,7 +87,7 @@ fn last_scheme(verb: Verb, orders: &mut Vec<Order>) -> Result<Scheme, Failure> {
 fn with_options(heap: Global, verb: Verb, options: Options) -> Result<Command, Failure> {
     let Options {
         names,
-        plan_lines,
+        chart,
         format,
         orders,
         output,
@@ -89,19 +96,17 @@ fn with_options(heap: Global, verb: Verb, options: Options) -> Result<Command, F
         plan_room,
     } = options;
     match verb {
-        Verb::Fold => fold(heap, plan_lines, names.as_slice()),
+        Verb::Fold => fold(heap, chart, names.as_slice()),
         Verb::Check => Ok(Command::Check(input(verb, format, names)?)),
         Verb::Pages => Ok(Command::Pages(layered(verb, format, names, orders)?)),
         Verb::Make => {
-            let mut pile = layered(verb, format, names, orders)?;
-            let order = last_scheme(verb, &mut pile.orders)?;
+            let (pile, order) = imposed(verb, format, names, orders)?;
             let book = output.unwrap_or(Target::StandardOutput);
             let make = Make { order, book, plan };
             Ok(Command::Make { pile, make })
         }
         Verb::Calls => {
-            let mut pile = layered(verb, format, names, orders)?;
-            let order = last_scheme(verb, &mut pile.orders)?;
+            let (pile, order) = imposed(verb, format, names, orders)?;
             let file = calls.ok_or(Failure::TooFewWords(
                 verb,
                 "--calls and a file with a call on each line",
@@ -126,12 +131,9 @@ pub fn read(heap: Global, words: &[String]) -> Result<Command, Failure> {
     let verb = match word.as_str() {
         "-h" | "--help" | "help" => return Ok(Command::Help(help::PROGRAM)),
         "-V" | "--version" => return Ok(Command::Help(help::VERSION)),
-        "fold" => Verb::Fold,
-        "check" => Verb::Check,
-        "pages" => Verb::Pages,
-        "make" => Verb::Make,
-        "calls" => Verb::Calls,
-        other => return Err(Failure::UnknownCommand(String::from_str(heap, other)?)),
+        other => other.parse::<Verb>().try_map_err(|_| Ok(Failure::UnknownCommand(String::from_str(
+            heap, other,
+        )?)))?,
     };
     match Options::read(heap, verb, rest)? {
         Some(options) => with_options(heap, verb, options),

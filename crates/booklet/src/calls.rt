@@ -1,19 +1,17 @@
 //! `booklet calls`: a list of calls, carried out one after the other.
-use crate::answers::Said;
+use crate::answers::Answers;
 use crate::call_lines::read_calls;
 use crate::failure::Failure;
 use crate::files;
-use crate::output::{Lines, Target, Texts};
+use crate::output::{Lines, Target, Texts, put};
 use crate::piles::{Pile, Task};
 use books::carry_out;
 use books::output::Output;
 use pages::limits::MAX_INK;
 use pages::sources::Source;
 use runs::calls::Call;
-use runs::log::Entry;
 use signature::imposition::Scheme;
-use std::io;
-use std::io::{BufWriter, Write};
+use std::io::BufWriter;
 
 /// What is done with a file of calls.
 #[derive(Drop)]
@@ -60,7 +58,7 @@ impl<'a> Task for Carried<'a> {
         let room = self.calls.iter().map(room).max().unwrap_or(0);
         let output = carry_out(rt.alloc(), source, *order, self.calls, room, *records)?;
         let entries = output.log.entries.as_slice();
-        print_answers(rt, entries)?;
+        put(BufWriter::new(rt.alloc(), rt.stdout())?, &Answers(entries))?;
         if let Some(target) = texts {
             target.write(rt, &Texts(entries))?;
         }
@@ -84,12 +82,4 @@ fn room(call: &Call) -> usize {
 fn records_of(order: Scheme, printed: u32) -> Option<usize> {
     let signature = order.signature()?;
     Some((printed as usize).saturating_mul(signature.cells() as usize))
-}
-
-fn print_answers(rt: &HostRuntime, entries: &[Entry]) -> io::Result<()> {
-    let mut out = BufWriter::new(rt.alloc(), rt.stdout())?;
-    for entry in entries {
-        writeln!(out, "{}", Said(entry.answer))?;
-    }
-    out.flush()
 }

@@ -6,11 +6,14 @@ use std::alloc::AllocError;
 use std::io;
 use thiserror::Error;
 
+/// What a message about a missing command ends with.
+const COMMANDS: &str = "commands are: fold, check, pages, make, calls (booklet --help tells more)";
+
 #[derive(Debug, Drop, Error)]
 pub enum Failure {
-    #[error("no command given; commands are: fold, check, pages, make, calls (booklet --help tells more)")]
+    #[error("no command given; {commands}", commands = COMMANDS)]
     NoCommand,
-    #[error("no command {0:?}; commands are: fold, check, pages, make, calls (booklet --help tells more)")]
+    #[error("no command {0:?}; {commands}", commands = COMMANDS)]
     UnknownCommand(String),
     #[error("{0}: no option {1:?} (booklet {0} --help lists them)")]
     UnknownOption(Verb, String),

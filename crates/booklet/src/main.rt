@@ -5,6 +5,7 @@ mod answers;
 mod arguments;
 mod call_lines;
 mod calls;
+mod chart;
 mod check;
 mod failure;
 mod files;
@@ -29,13 +30,7 @@ use std::process::ExitCode;
 fn carry_out(rt: &HostRuntime, command: Command) -> Result<(), Failure> {
     match command {
         Command::Help(text) => rt.print(text)?,
-        Command::Fold { plan, signature } => {
-            if plan {
-                charts::print_plan(rt, &signature)?;
-            } else {
-                charts::print_sheets(rt, &signature)?;
-            }
-        }
+        Command::Fold { chart, signature } => chart.print(rt, &signature)?,
         Command::Check(input) => input.read(rt, &Check)?,
         Command::Pages(pile) => pile.perform(rt, &Show)?,
         Command::Make { pile, make } => pile.perform(rt, &make)?,

@@ -1,4 +1,5 @@
 //! The options of a command, as its words set them.
+use crate::chart::Chart;
 use crate::failure::Failure;
 use crate::input::Format;
 use crate::output::Target;
@@ -13,8 +14,7 @@ use std::alloc::Global;
 pub struct Options {
     /// The words that are no options.
     pub names: Vec<String>,
-    /// Whether fold prints plan lines.
-    pub plan_lines: bool,
+    pub chart: Chart,
     pub format: Format,
     pub orders: Vec<Order>,
     pub output: Option<Target>,
@@ -28,7 +28,7 @@ impl Options {
     fn new(heap: Global) -> Options {
         Options {
             names: Vec::new(heap),
-            plan_lines: false,
+            chart: Chart::Sheets,
             format: Format::Dsc,
             orders: Vec::new(heap),
             output: None,
@@ -67,7 +67,7 @@ impl Options {
     fn set(&mut self, heap: Global, setting: Setting<'_>) -> Result<(), Failure> {
         match setting.kind {
             Kind::Listing => self.format = Format::Listing,
-            Kind::PlanLines => self.plan_lines = true,
+            Kind::PlanLines => self.chart = Chart::Lines,
             Kind::Select => self.select(heap, setting)?,
             Kind::Pad => self.orders.push(Order::Pad(setting.value(heap, 0)?))?,
             Kind::Turn => self.orders.push(Order::Turn(setting.value(heap, 0)?))?,
@@ -89,7 +89,7 @@ impl Options {
 
     /// Takes the ranges of `--select`, commas between them.
     fn select(&mut self, heap: Global, setting: Setting<'_>) -> Result<(), Failure> {
-        for part in setting.word(0).split(',') {
+        for part in setting.word(0).unwrap_or("").split(',') {
             let Pages(range) = part
                 .parse::<Pages>()
                 .try_map_err(|_| setting.unreadable(heap))?;

@@ -64,9 +64,8 @@ impl Target {
     pub fn write<C: Content>(&self, rt: &HostRuntime, content: &C) -> Result<(), Failure> {
         match self {
             Target::StandardOutput => {
-                let mut out = BufWriter::new(rt.alloc(), rt.stdout())?;
-                let written = content.write(&mut out).and_then(|_| out.flush());
-                unwritten(rt, "standard output", written)
+                let out = BufWriter::new(rt.alloc(), rt.stdout())?;
+                unwritten(rt, "standard output", put(out, content))
             }
             Target::File(name) => {
                 let name = name.as_str();
@@ -78,10 +77,14 @@ impl Target {
     }
 }
 
-fn create<C: Content>(rt: &HostRuntime, name: &str, content: &C) -> io::Result<()> {
-    let mut out = BufWriter::new(rt.alloc(), fs::create(rt, name)?)?;
+/// Writes all of the content.
+pub fn put<W: Write + Drop, C: Content>(mut out: BufWriter<W>, content: &C) -> io::Result<()> {
     content.write(&mut out)?;
     out.flush()
+}
+
+fn create<C: Content>(rt: &HostRuntime, name: &str, content: &C) -> io::Result<()> {
+    put(BufWriter::new(rt.alloc(), fs::create(rt, name)?)?, content)
 }
 
 /// A write that failed, with the name of what could not be written.

@@ -1,19 +1,23 @@
 //! `booklet pages`: what a source shows, as lines.
 use crate::failure::Failure;
 use crate::piles::Task;
+use layers::placements::Placements;
 use pages::maps::Placement;
 use pages::sources::Source;
 use std::io;
 
+/// Whether a page shows nothing.
+pub fn is_blank<S: Source>(source: &S, page: u32) -> bool {
+    Placements::of(source, page).next().is_none()
+}
+
 fn print_page<S: Source>(rt: &HostRuntime, source: &S, page: u32) -> io::Result<()> {
-    let count = source.laid(page).unwrap_or(0);
-    if count == 0 {
+    if is_blank(source, page) {
         return println!(rt; "page {page} blank");
     }
-    for slot in 1..=count {
-        if let Ok(Placement { leaf, map }) = source.place(page, slot) {
-            println!(rt; "page {page} slot {slot} leaf {leaf} map {map}")?;
-        }
+    for (before, Placement { leaf, map }) in Placements::of(source, page).enumerate() {
+        let slot = before + 1;
+        println!(rt; "page {page} slot {slot} leaf {leaf} map {map}")?;
     }
     Ok(())
 }

@@ -1,5 +1,6 @@
 //! The commands that take options.
 use std::fmt;
+use std::str::FromStr;
 
 #[derive(Clone, Copy, PartialEq, Eq, Debug)]
 pub enum Verb {
@@ -26,6 +27,25 @@ impl Verb {
         match self {
             Verb::Fold => 2, // a scheme and a number of sheets
             _ => 1, // a file
+        }
+    }
+}
+
+/// A word that is no command.
+#[derive(Debug, Drop)]
+pub struct UnknownVerb;
+
+impl FromStr for Verb {
+    type Err = UnknownVerb;
+
+    fn from_str(word: &str) -> Result<Verb, UnknownVerb> {
+        match word {
+            "fold" => Ok(Verb::Fold),
+            "check" => Ok(Verb::Check),
+            "pages" => Ok(Verb::Pages),
+            "make" => Ok(Verb::Make),
+            "calls" => Ok(Verb::Calls),
+            _ => Err(UnknownVerb),
         }
     }
 }

@@ -85,16 +85,16 @@ pub struct Setting<'a> {
 }
 
 impl<'a> Setting<'a> {
-    /// A word of its value; nothing past the last word of all.
-    pub fn word(&self, index: usize) -> &'a str {
-        self.values.get(index).map_or("", |word| word.as_str())
+    /// A word of its value; None past the last word of all.
+    pub fn word(&self, index: usize) -> Option<&'a str> {
+        self.values.get(index).map(|word| word.as_str())
     }
 
     /// The failure of a value that cannot be read, or that there is no memory to tell it.
     pub fn unreadable(&self, heap: Global) -> Result<Failure, Failure> {
         Ok(Failure::BadValue {
             option: String::from_str(heap, self.name)?,
-            value: String::from_str(heap, self.word(0))?,
+            value: String::from_str(heap, self.word(0).unwrap_or(""))?,
             wanted: self.kind.wanted(),
         })
     }
@@ -105,16 +105,16 @@ impl<'a> Setting<'a> {
         T::Err: Drop,
     {
         self.word(index)
-            .parse::<T>()
-            .try_map_err(|_| self.unreadable(heap))
+            .and_then(|word| word.parse::<T>().ok())
+            .try_ok_or_else(|| self.unreadable(heap))
     }
 
     /// The name of a file that is its value.
     pub fn file(&self, heap: Global) -> Result<String, Failure> {
-        let name = self.word(0);
-        if name.is_empty() {
-            return Err(self.unreadable(heap)?);
-        }
+        let name = self
+            .word(0)
+            .filter(|name| !name.is_empty())
+            .try_ok_or_else(|| self.unreadable(heap))?;
         Ok(String::from_str(heap, name)?)
     }
 }

@@ -17,8 +17,13 @@ enum Format {
 }
 
 fn print_fault(rt: &HostRuntime, name: &str, fault: Fault) -> io::Result<()> {
-    let number = u8::from(fault.kind);
-    let (layer, page, offset) = (fault.layer, fault.page, fault.offset);
+    let Fault {
+        kind,
+        layer,
+        page,
+        offset,
+    } = fault;
+    let number = u8::from(kind);
     println!(rt; "{name} refused {number} {layer} {page} {offset}")
 }
 
