@@ -89,7 +89,8 @@ impl Options {
 
     /// Takes the ranges of `--select`, commas between them.
     fn select(&mut self, heap: Global, setting: Setting<'_>) -> Result<(), Failure> {
-        for part in setting.word(0).unwrap_or("").split(',') {
+        let ranges = setting.word(0).try_ok_or_else(|| setting.unreadable(heap))?;
+        for part in ranges.split(',') {
             let Pages(range) = part
                 .parse::<Pages>()
                 .try_map_err(|_| setting.unreadable(heap))?;
