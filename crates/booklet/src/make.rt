@@ -2,7 +2,7 @@
 use crate::failure::Failure;
 use crate::output::{Lines, Target, Texts};
 use crate::piles::Task;
-use crate::show::is_blank;
+use crate::show::shown;
 use books::output::Output;
 use books::print_book;
 use pages::sources::Source;
@@ -20,7 +20,7 @@ pub struct Make {
 /// How many pages of a source show nothing.
 fn blanks<S: Source>(source: &S) -> usize {
     (1..=source.pages())
-        .filter(|page| is_blank(source, *page))
+        .filter(|page| shown(source, *page) == 0)
         .count()
 }
 

@@ -6,16 +6,18 @@ use pages::maps::Placement;
 use pages::sources::Source;
 use std::io;
 
-/// Whether a page shows nothing.
-pub fn is_blank<S: Source>(source: &S, page: u32) -> bool {
-    Placements::of(source, page).next().is_none()
+/// How many placements a page shows; none where there is no such page.
+pub fn shown<S: Source>(source: &S, page: u32) -> u32 {
+    source.laid(page).unwrap_or(0)
 }
 
 fn print_page<S: Source>(rt: &HostRuntime, source: &S, page: u32) -> io::Result<()> {
-    if is_blank(source, page) {
+    // The count is asked first, which under many layers costs less than a placement.
+    let count = shown(source, page) as usize;
+    if count == 0 {
         return println!(rt; "page {page} blank");
     }
-    for (before, Placement { leaf, map }) in Placements::of(source, page).enumerate() {
+    for (before, Placement { leaf, map }) in Placements::of(source, page).take(count).enumerate() {
         let slot = before + 1;
         println!(rt; "page {page} slot {slot} leaf {leaf} map {map}")?;
     }

@@ -1,25 +1,22 @@
 //! The calls of a job.
 
-ghost use Rattle.fold.specs.Signatures.{letters_of};
 ghost use Rattle.job.specs.Books.{job_book, job_depth, longest, per_side, sheets, side_printed, sides};
-ghost use Rattle.job.specs.Calls.{cell_at, print_refusal, printing, pullable, pulled, shown_by, start_answer};
+ghost use Rattle.job.specs.Calls.{cell_at, print_refusal, printing, pullable, pulled, start_answer};
 ghost use Rattle.pages.specs.Meaning.{fault, written};
 ghost use Rattle.pages.specs.declared.faults.Refusal.TheVariants.{NoSuch};
-ghost use Rattle.plan.specs.Records.{position_record};
 ghost use Rattle.sides.specs.Texts.{ending_text, opening_of};
 ghost use Rattle.signature.specs.Imposing.{impose_shows};
-ghost use Rattle.std.specs.Option.{option_map};
 ghost use Rattle.std.specs.Prelude.{◌≡◌, ◌+◌, ◌*◌, true, false, length, map, max, Some, None, MatchResult};
 ghost use Rattle.std.specs.List.{fold, range_with_len};
 
 use crate::job::Job;
 use crate::texts::SideText;
-use fold::{Cell, Position, Side, Signature};
+use fold::{Cell, Signature};
 use layers::rules::Rule;
 use pages::faults::{Fault, Refusal};
 use pages::sources::Source;
 use plan::record::Record;
-use plan::records::{put_records, record};
+use plan::records::{cell, put_records};
 use sides::{ending_length, opening_length};
 
 // The next side to print, to which there is no objection.
@@ -27,23 +24,6 @@ use sides::{ending_length, opening_length};
 struct Next {
     signature: Signature,
     text: SideText,
-}
-
-// The page and mark at a position of a side; None where there is no such position.
-fn shown(signature: &Signature, side: u32, row: u32, column: u32) -> Option<Cell>
-    ensures { result ≡ option_map shown_by (position_record (letters_of signature.now) signature.now.sheets side row column) }
-{
-    let entry = record(signature, side, row, column)?;
-    let cell = signature.cell(Position {
-        sheet: entry.sheet,
-        side: Side::of(side),
-        row,
-        column,
-    })?;
-    Some(Cell {
-        page: entry.page,
-        mark: cell.mark,
-    })
 }
 
 impl<S: Source> Job<S> {
@@ -186,6 +166,6 @@ impl<S: Source> Job<S> {
         if self.layer.pages() < side {
             return Err(missing);
         }
-        shown(&signature, side, row, column).ok_or(missing)
+        cell(&signature, side, row, column).ok_or(missing)
     }
 }

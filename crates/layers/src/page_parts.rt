@@ -31,6 +31,7 @@ impl<'a, S: Source, R: Rule> Model for PageParts<'a, S, R> {
 
 impl<'a, S: Source, R: Rule> PageParts<'a, S, R> {
     /// All parts of a page.
+    #[inline(always)]
     pub fn of(below: &'a S, rule: &'a R, page: u32) -> PageParts<'a, S, R>
         ensures all { result ≡ R.Rule.shows rule.now (S.Source.meaning below.now) page }
         ensures few { length result ≤ max_parts }
@@ -51,6 +52,8 @@ impl<'a, S: Source, R: Rule> Iterator for PageParts<'a, S, R> {
 
     ghost remaining = { item_count (λ s. s) };
 
+    // Each layer asks its parts at every step down; a call of its own for each made a pile a quarter slower.
+    #[inline(always)]
     fn next(&mut self) -> Option<Part> {
         let index = self.rest.next()?;
         self.rule.part(self.below, self.page, index)

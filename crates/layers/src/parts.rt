@@ -40,6 +40,7 @@ impl Part {
     }
 
     // How many placements the part shows.
+    #[inline(always)]
     pub(crate) fn count<S: Source>(self, below: &S) -> u32
         ensures all { result ≡ length (part_shown (S.Source.meaning below.now) self) }
         ensures few { result ≤ max_placements }
@@ -48,6 +49,7 @@ impl Part {
     }
 
     // The placement in a slot of the part.
+    #[inline(always)]
     pub(crate) fn place<S: Source>(self, below: &S, slot: u32) -> Option<Placement>
         ensures { result ≡ slot_at (part_shown (S.Source.meaning below.now) self) slot }
     {

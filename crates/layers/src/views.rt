@@ -20,6 +20,7 @@ pub(crate) struct View<'a, S: Source, R: Rule> {
 
 impl<'a, S: Source, R: Rule> View<'a, S, R> {
     // The parts of a page.
+    #[inline(always)]
     fn parts(&self, page: u32) -> PageParts<'a, S, R>
         ensures all { let m = S.Source.meaning self.now.below.now in result ≡ R.Rule.shows self.now.rule.now m page }
         ensures few { length result ≤ max_parts }

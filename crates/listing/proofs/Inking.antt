@@ -1,7 +1,7 @@
 -- Lengths of the ink of a listed page.
-use Rattle.std.proofs.Common.{◌≡◌, ℕ, zero, suc, ◌+◌, ◌*◌, ◌≤◌, true, false, cond, List, [], ◌∷◌, ◌++◌, length, codes, decimal, sym, refl, ap, ◌∙◌, append_assoc, arith, length-append}
-use Rattle.std.specs.List.{flat_map}
+use Rattle.std.proofs.Common.{◌≡◌, ℕ, zero, suc, ◌+◌, ◌*◌, ◌≤◌, true, false, cond, List, [], ◌∷◌, ◌++◌, length, codes, decimal, sym, refl, ap, ◌∙◌, append_assoc, arith, length-append, count_by}
 use Rattle.std.proofs.lemmas.Fmt.{length-decimal-le}
+use Rattle.std.proofs.lemmas.List.Sums.{sum_by-cons}
 use Rattle.listing.specs.Inks.{baseline, escape, escaped, ink_of, shown_line, shown_lines, special}
 use Rattle.listing.specs.Meaning.{ink_at, page_of}
 
@@ -19,9 +19,14 @@ length-shown i l = simp length-append (omega arith)
 pub short_decimal : (n : ℕ) → n ≤ 748 → length (decimal n) ≤ 3
 short_decimal n h = length-decimal-le 3 n (omega arith) (omega arith) (omega arith)
 
-pub escaped_flat : (l : List ℕ) → escaped l ≡ flat_map escape l
-escaped_flat [] = refl
-escaped_flat (b ∷ l) = ap (λ z. escape b ++ z) (escaped_flat l)
+-- one byte more for each special one
+escape_length : (b : ℕ) → length (escape b) ≡ 1 + cond (special b) 1 0
+escape_length b = elim (special b) as (λ t. length (cond t (92 ∷ b ∷ []) (b ∷ [])) ≡ 1 + cond t 1 0) [ true ↦ refl | false ↦ refl ]
+
+pub escaped_count : (l : List ℕ) → length (escaped l) ≡ length l + count_by special l
+escaped_count [] = refl
+escaped_count (b ∷ l) =
+    omega (arith, escape_length b, escaped_count l, length-append (escape b) (escaped l), sum_by-cons (λ x. cond (special x) 1 0) b l)
 
 -- a line is put in three parts
 pub line_parts : (i y : ℕ) (l : List ℕ) → y ≡ baseline i

@@ -1,9 +1,10 @@
-ghost use Rattle.std.specs.Prelude.{◌≡◌, ◌-◌, ◌^◌, min, length, is_some};
+ghost use Rattle.std.specs.Prelude.{◌≡◌, ◌+◌, ◌-◌, ◌^◌, ◌≤◌, min, length, count_by, is_some, nat_le};
 ghost use Rattle.listing.specs.Inks.{baseline, escape, escaped, ink_of, shown_line, special};
+ghost use Rattle.text.specs.Writes.{Wrote};
 
 use crate::parts::Parts;
 use crate::places::LINE_FEED;
-use text::{Counter, Piece, Sink, put_pieces};
+use text::{Counter, Lent, Piece, Sink, put_pieces};
 
 /// How high the first line of a page stands, in points.
 const FIRST_BASELINE: u64 = 748;
@@ -11,44 +12,106 @@ const FIRST_BASELINE: u64 = 748;
 /// How much lower each line stands than the one before it.
 const LINE_SPACING: u64 = 11;
 
+/// The line, from 0, that would stand at the foot.
+const FOOT_LINE: u64 = FIRST_BASELINE / LINE_SPACING;
+
 const FONT: &[u8] = b"/Courier findfont 6 scalefont setfont\n";
 
 /// Whether a byte has a meaning in a PostScript string.
 fn is_special(b: u8) -> bool
     ensures { result ≡ special b }
 {
-    matches!(b, b'(' | b')' | b'\\')
+    matches!(char::from(b), '(' | ')' | '\\')
 }
 
-/// Puts a byte, with a backslash before a special one.
-fn put_escape<O: Sink>(out: &mut O, b: u8) -> Option<()>
-    ensures { O.takes out.old (escape b) (is_some result) out.new }
+fn count_special(line: &[u8]) -> usize
+    ensures { result ≡ count_by special line.now }
+{
+    // a loop, which is unrolled as `filter` and `count` are not: each byte of a listing passes here
+    let mut count = 0;
+    for b in line {
+        if is_special(*b) {
+            count += 1;
+        }
+    }
+    count
+}
+
+/// How many bytes a line has once a backslash stands before each special byte.
+#[tactic(auto, using(crate::proofs::Inking::escaped_count))]
+fn escaped_length(line: &[u8]) -> usize
+    ensures { result ≡ length (escaped line.now) }
+{
+    line.len() + count_special(line)
+}
+
+/// Whether a line fits into so many bytes once it is escaped; room for twice the line is enough, and spares the count.
+#[tactic(auto, using(crate::proofs::Inking::escaped_le))]
+fn has_room(room: usize, line: &[u8]) -> bool
+    ensures { result ≡ nat_le (length (escaped line.now)) room }
+{
+    line.len() <= room / 2 || escaped_length(line) <= room
+}
+
+/// Writes a byte, with a backslash before a special one, and answers the place after it.
+fn put_escape(buffer: &mut [u8], at: usize, b: u8) -> usize
+    requires { at + length (escape b) ≤ length buffer.old }
+    ensures { Wrote buffer.old at (escape b) buffer.new result }
 {
     if is_special(b) {
-        out.take(&[b'\\', b])
-    } else {
-        out.take(&[b])
+        buffer[at] = b'\\';
+        buffer[at + 1] = b;
+        return at + 2;
+    }
+    buffer[at] = b;
+    at + 1
+}
+
+/// Writes a line with a backslash before each special byte, and answers the place after it.
+#[inline(never)] // so that the loop keeps its registers wherever it is called
+fn put_escaped(buffer: &mut [u8], at: usize, line: &[u8]) -> usize
+    requires { at + length (escaped line.now) ≤ length buffer.old }
+    ensures { Wrote buffer.old at (escaped line.now) buffer.new result }
+{
+    let mut end = at;
+    for b in line {
+        end = put_escape(buffer, end, *b);
+    }
+    end
+}
+
+/// A sink that takes a line with a backslash before each special byte: at once, since taking byte by byte costs more.
+pub(crate) trait LineSink: Sink {
+    /// Takes a line, or answers None where it does not fit.
+    fn take_escaped(&mut self, line: &[u8]) -> Option<()>
+        ensures { Self.takes self.old (escaped line.now) (is_some result) self.new };
+}
+
+impl LineSink for Counter {
+    fn take_escaped(&mut self, line: &[u8]) -> Option<()> {
+        self.count = self.count.checked_add(escaped_length(line))?;
+        Some(())
     }
 }
 
-/// Puts a line with a backslash before each special byte.
-fn put_escaped<O: Sink>(out: &mut O, line: &[u8]) -> Option<()>
-    ensures { O.takes out.old (escaped line.now) (is_some result) out.new }
-{
-    for b in line {
-        put_escape(out, *b)?;
+impl<'a> LineSink for Lent<'a> {
+    fn take_escaped(&mut self, line: &[u8]) -> Option<()> {
+        if !has_room(self.buffer.len() - self.at, line) {
+            return None;
+        }
+        self.at = put_escaped(self.buffer, self.at, line);
+        Some(())
     }
-    Some(())
 }
 
 /// How high line `i`, from 0, stands; a line below the foot, which no page has, would stand at the foot.
 fn baseline(i: usize) -> u64
     ensures { result ≡ baseline i }
 {
-    FIRST_BASELINE.saturating_sub((i as u64).saturating_mul(LINE_SPACING))
+    FIRST_BASELINE - LINE_SPACING * (i as u64).min(FOOT_LINE)
 }
 
-fn put_line<O: Sink>(out: &mut O, i: usize, line: &[u8]) -> Option<()>
+fn put_line<O: LineSink>(out: &mut O, i: usize, line: &[u8]) -> Option<()>
     ensures { O.takes out.old (shown_line i line.now) (is_some result) out.new }
 {
     let start = [
@@ -57,12 +120,12 @@ fn put_line<O: Sink>(out: &mut O, i: usize, line: &[u8]) -> Option<()>
         Piece::Bytes(b" moveto ("),
     ];
     put_pieces(out, &start)?;
-    put_escaped(out, line)?;
+    out.take_escaped(line)?;
     out.take(b") show\n")
 }
 
 /// Puts the ink of a page.
-pub(crate) fn put_ink<O: Sink>(out: &mut O, page: &[u8]) -> Option<()>
+pub(crate) fn put_ink<O: LineSink>(out: &mut O, page: &[u8]) -> Option<()>
     ensures { O.takes out.old (ink_of page.now) (is_some result) out.new }
 {
     out.take(FONT)?;

@@ -85,12 +85,12 @@ impl From<Refusal> for u8 {
     }
 }
 
-/// The name by which users know the kind.
-impl fmt::Display for Refusal {
-    ghost output = { λ kind. Some (name kind) };
-
-    fn fmt<W: fmt::Write>(&self, f: &mut fmt::Formatter<W>) -> fmt::Result {
-        f.write_str(match self {
+impl Refusal {
+    /// The name by which users know the kind.
+    pub fn name(self) -> &'static str
+        ensures { result.now ≡ name self }
+    {
+        match self {
             Refusal::NotDsc => "NOT DSC",
             Refusal::OutOfOrder => "OUT OF ORDER",
             Refusal::BadComment => "BAD COMMENT",
@@ -109,7 +109,16 @@ impl fmt::Display for Refusal {
             Refusal::WrongIndex => "WRONG INDEX",
             Refusal::Finished => "FINISHED",
             Refusal::ShortPlan => "SHORT PLAN",
-        })
+        }
+    }
+}
+
+/// The name.
+impl fmt::Display for Refusal {
+    ghost output = { λ kind. Some (name kind) };
+
+    fn fmt<W: fmt::Write>(&self, f: &mut fmt::Formatter<W>) -> fmt::Result {
+        f.write_str(self.name())
     }
 }
 

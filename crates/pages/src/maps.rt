@@ -1,6 +1,6 @@
 //! Maps of the plane, placements of leaves, and sizes.
 
-ghost use Rattle.std.specs.Prelude.{◌≡◌, ◌≤◌, true, pos, ◌+ℤ◌, ◌*ℤ◌, if◌then◌else◌, ◌&&◌, Some, None};
+ghost use Rattle.std.specs.Prelude.{◌≡◌, ◌≤◌, ◌^◌, ◌*◌, true, pos, ◌+ℤ◌, ◌*ℤ◌, if◌then◌else◌, ◌&&◌, Some, None, MatchOption};
 ghost use Rattle.pages.specs.Limits.{max_turn, max_ratio};
 ghost use Rattle.pages.specs.Maps.{near, fits, turned, identity, followed, composed, MapsCompose};
 ghost use Rattle.pages.specs.Texts.{map_text, size_text};
@@ -91,6 +91,13 @@ fn scaled(n: u32, a: i64, d: u32, b: i64) -> i64
     n as i64 * a + d as i64 * b
 }
 
+// The product of two numbers of ratios, in 64 bits; None where no number of a ratio is so great.
+fn product(a: u32, b: u32) -> Option<u32>
+    ensures { MatchOption result (2 ^ 32 ≤ a * b) (λ n. n ≡ a * b) }
+{
+    u32::try_from(u64::from(a) * u64::from(b)).ok()
+}
+
 impl Map {
     /// The map that leaves every point where it is.
     pub fn identity() -> Map
@@ -131,8 +138,8 @@ impl Map {
         let (x, y) = turned(other.turn, self.x, self.y);
         let both = Map {
             turn: (self.turn + other.turn) % 4,
-            num: self.num.checked_mul(other.num)?,
-            den: self.den.checked_mul(other.den)?,
+            num: product(self.num, other.num)?,
+            den: product(self.den, other.den)?,
             x: scaled(other.num, x, self.den, other.x),
             y: scaled(other.num, y, self.den, other.y),
         };

@@ -3,14 +3,16 @@
 //! A signature and a side are passed side by side: each call has a side of its own, so a struct of the two would only be
 //! built at the call and taken apart in it.
 
-ghost use Rattle.std.specs.Prelude.{◌≡◌, ◌*◌, ◌≤◌, length};
+ghost use Rattle.std.specs.Prelude.{◌≡◌, ◌*◌, ◌≤◌, Some, length};
 ghost use Rattle.fold.specs.Folding.{page_count};
 ghost use Rattle.fold.specs.Signatures.{letters_of};
 ghost use Rattle.pages.specs.Limits.{max_pages};
+ghost use Rattle.plan.specs.Folds.{cell_of};
 ghost use Rattle.plan.specs.Records.{is_side, place_after, position_record, record_in, written};
+ghost use Rattle.std.specs.Option.{option_map};
 
 use crate::record::Record;
-use fold::{Position, Side, Signature};
+use fold::{Cell, Position, Side, Signature};
 use pages::limits::MAX_PAGES;
 
 // Whether a book may have such a side.
@@ -29,9 +31,9 @@ fn pages_of(signature: &Signature, signatures: u32) -> u32
     signatures * signature.pages()
 }
 
-/// The record of a position of a side, by its row and column; None where there is no such position.
-pub fn record(signature: &Signature, side: u32, row: u32, column: u32) -> Option<Record>
-    ensures { result ≡ position_record (letters_of signature.now) signature.now.sheets side row column }
+/// The page and mark at a position of a side, by its row and column; None where there is no such position.
+pub fn cell(signature: &Signature, side: u32, row: u32, column: u32) -> Option<Cell>
+    ensures { result ≡ option_map (λ r. cell_of (Some r)) (position_record (letters_of signature.now) signature.now.sheets side row column) }
 {
     if !is_side(side) {
         return None;
@@ -41,21 +43,34 @@ pub fn record(signature: &Signature, side: u32, row: u32, column: u32) -> Option
     // The signatures before that of the side, and the sheets before its own in its signature.
     let signatures = before / sheets;
     let lower = before % sheets;
-    let at = Position {
+    let shown = signature.cell(Position {
         sheet: lower + 1,
         side: Side::of(side),
         row,
         column,
-    };
-    let cell = signature.cell(at)?;
+    })?;
+    Some(Cell {
+        page: pages_of(signature, signatures) + shown.page,
+        mark: shown.mark,
+    })
+}
+
+/// The record of a position of a side, by its row and column; None where there is no such position.
+pub fn record(signature: &Signature, side: u32, row: u32, column: u32) -> Option<Record>
+    ensures { result ≡ position_record (letters_of signature.now) signature.now.sheets side row column }
+{
+    let Cell { page, mark } = cell(signature, side, row, column)?;
+    // Side 0 has no cell.
+    let before = (side - 1) / 2;
+    let sheets = signature.sheets();
     Some(Record {
-        signature: signatures + 1,
-        sheet: at.sheet,
-        side: u32::from(at.side),
+        signature: before / sheets + 1,
+        sheet: before % sheets + 1,
+        side: u32::from(Side::of(side)),
         row,
         column,
-        page: pages_of(signature, signatures) + cell.page,
-        mark: u32::from(cell.mark),
+        page,
+        mark: u32::from(mark),
     })
 }
 

@@ -193,9 +193,9 @@ text_does {e} say q t d most n b b' p (Err f) r few i rules h s =
 
 -- ---- a pour
 
-module _ (m : Meaning) (l at : ℕ) (b b' : List ℕ) where
+module _ (e : Edition) (l at : ℕ) (b b' : List ℕ) where
   abbrev ink : List ℕ
-  ink = m.ink l
+  ink = e.layer.ink l
 
   -- what the ink's writing answered and left
   pour_ok : (leaf : Bool) (end : ℕ) → Ok end ≡ cond leaf (end_at ink (length b) at) (Err (fault NoSuch 1 l))
@@ -218,14 +218,14 @@ module _ (m : Meaning) (l at : ℕ) (b b' : List ℕ) where
       short false h w = w
   pour_err false f h w = w
 
-  pub pour_does : {e : Edition} → m ≡ e.layer → (most n : ℕ) (p : List Record) (v : Result ℕ Fault) (r : Done) → length b ≤ most
-      → v ≡ pour_at m l (length b) at → b' ≡ poured m l b at → Said (λ len a. a ≡ Poured len) at v r → Does e (Pour l at most) (state n b p) (state n b' p) r
-  pour_does {e} same most n p (Ok end) r few h w s =
-      let x = pour_ok (leb l m.leaves) end h w in
+  pub pour_does : (most n : ℕ) (p : List Record) (v : Result ℕ Fault) (r : Done) → length b ≤ most
+      → v ≡ pour_at e.layer l (length b) at → b' ≡ poured e.layer l b at → Said (λ len a. a ≡ Poured len) at v r → Does e (Pour l at most) (state n b p) (state n b' p) r
+  pour_does most n p (Ok end) r few h w s =
+      let x = pour_ok (leb l e.layer.leaves) end h w in
       written_does n n b b' p p at ink end (Poured end) r s x.0 x.1 x.2 refl
-      (ap (pour_reply ink) (h ∙ ap (λ z. pour_at m l z at) (let z : length b ≡ min most (length b) = omega arith in z)) ∙ ap (λ (z : Meaning). pour_reply (z.ink l) (pour_at z l (min most (length b)) at)) same)
+      (ap (pour_reply ink) (h ∙ ap (λ z. pour_at e.layer l z at) (let z : length b ≡ min most (length b) = omega arith in z)))
       refl refl
-  pour_does {e} same most n p (Err f) r few h w s =
+  pour_does most n p (Err f) r few h w s =
       refused n n b b' p p f r s
-      (ap (pour_reply ink) (h ∙ ap (λ z. pour_at m l z at) (let z : length b ≡ min most (length b) = omega arith in z)) ∙ ap (λ (z : Meaning). pour_reply (z.ink l) (pour_at z l (min most (length b)) at)) same)
-      refl (pour_err (leb l m.leaves) f h w) refl
+      (ap (pour_reply ink) (h ∙ ap (λ z. pour_at e.layer l z at) (let z : length b ≡ min most (length b) = omega arith in z)))
+      refl (pour_err (leb l e.layer.leaves) f h w) refl

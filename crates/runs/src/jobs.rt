@@ -11,13 +11,11 @@ use crate::printer::Printer;
 use fold::Cell;
 use job::Job;
 use pages::faults::Fault;
+use pages::maps::{Placement, Size};
 use pages::sources::Source;
 use plan::record::Record;
-use signature::imposition::Sheets;
 
 impl<S: Source> Printer for Job<S> {
-    type Sheets = Sheets<S>;
-
     ghost edition = { λ j. edition (book_in S.meaning j.layer) };
 
     ghost printed = { λ j. j.printed };
@@ -56,7 +54,35 @@ impl<S: Source> Printer for Job<S> {
         Job::cell(self, side, row, column)
     }
 
-    fn sheets(&self) -> &Sheets<S> {
-        self.layer()
+    fn size(&self) -> Size {
+        Job::size(self)
+    }
+
+    fn leaves(&self) -> u32 {
+        Job::leaves(self)
+    }
+
+    fn pages(&self) -> u32 {
+        Job::pages(self)
+    }
+
+    fn depth(&self) -> u8 {
+        Job::depth(self)
+    }
+
+    fn laid(&self, page: u32) -> Result<u32, Fault> {
+        Job::laid(self, page)
+    }
+
+    fn place(&self, page: u32, slot: u32) -> Result<Placement, Fault> {
+        Job::place(self, page, slot)
+    }
+
+    fn length(&self, leaf: u32) -> Result<u32, Fault> {
+        Job::length(self, leaf)
+    }
+
+    fn pour(&self, leaf: u32, buffer: &mut [u8], at: usize) -> Result<usize, Fault> {
+        Job::pour(self, leaf, buffer, at)
     }
 }

@@ -2,18 +2,16 @@
 
 ghost use Rattle.std.specs.Prelude.{◌≡◌, ℕ, length};
 ghost use Rattle.job.specs.Calls.{pulled};
+ghost use Rattle.pages.specs.Meaning.{laid_at, length_at, place_at, pour_at, poured, size_of};
 ghost use Rattle.runs.specs.Editions.{Edition, Prints, Writes, cell_at, depth_of, pull_back, state};
 
 use fold::Cell;
 use pages::faults::Fault;
-use pages::sources::Source;
+use pages::maps::{Placement, Size};
 use plan::record::Record;
 
 /// Prints an edition. No call alters the edition, and each says what it does to the sides that stand printed.
 pub trait Printer {
-    /// The layer whose pages are the sides.
-    type Sheets: Source;
-
     /// What is printed.
     ghost edition: { Self → Edition };
 
@@ -50,9 +48,31 @@ pub trait Printer {
     fn cell(&self, side: u32, row: u32, column: u32) -> Result<Cell, Fault>
         ensures { result ≡ cell_at (edition self.now) side row column };
 
-    /// The layer whose pages are the sides, to be asked about them.
-    fn sheets(&self) -> &Self::Sheets
-        ensures { Self.Sheets.meaning result.now ≡ (edition self.now).layer };
+    /// The questions of the layer whose pages are the sides.
+    fn size(&self) -> Size
+        ensures { result ≡ size_of (edition self.now).layer };
+
+    fn leaves(&self) -> u32
+        ensures { result ≡ (edition self.now).layer.leaves };
+
+    fn pages(&self) -> u32
+        ensures { result ≡ (edition self.now).layer.pages };
+
+    fn depth(&self) -> u8
+        ensures { result ≡ (edition self.now).layer.depth };
+
+    fn laid(&self, page: u32) -> Result<u32, Fault>
+        ensures { result ≡ laid_at (edition self.now).layer page };
+
+    fn place(&self, page: u32, slot: u32) -> Result<Placement, Fault>
+        ensures { result ≡ place_at (edition self.now).layer page slot };
+
+    fn length(&self, leaf: u32) -> Result<u32, Fault>
+        ensures { result ≡ length_at (edition self.now).layer leaf };
+
+    fn pour(&self, leaf: u32, buffer: &mut [u8], at: usize) -> Result<usize, Fault>
+        ensures answer { result ≡ pour_at (edition self.now).layer leaf (length buffer.old) at }
+        ensures after { buffer.new ≡ poured (edition self.now).layer leaf buffer.old at };
 
     ghost reflexive: { (a : Self) → stays a a };
 

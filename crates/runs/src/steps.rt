@@ -34,21 +34,15 @@ impl<'a, P: Printer> Session<'a, P> {
             Call::Cell { side, row, column } => {
                 told(self.printer.cell(side, row, column), Answer::Shown)
             }
-            Call::Size => Done::from(Answer::Measured(self.printer.sheets().size())),
-            Call::Leaves => Done::from(Answer::Number(self.printer.sheets().leaves())),
-            Call::Pages => Done::from(Answer::Number(self.printer.sheets().pages())),
-            Call::Depth => Done::from(Answer::Number(u32::from(self.printer.sheets().depth()))),
-            Call::Laid { page } => told(self.printer.sheets().laid(page), Answer::Number),
-            Call::Place { page, slot } => {
-                told(self.printer.sheets().place(page, slot), Answer::Placed)
-            }
-            Call::Length { leaf } => told(self.printer.sheets().length(leaf), Answer::Number),
+            Call::Size => Done::from(Answer::Measured(self.printer.size())),
+            Call::Leaves => Done::from(Answer::Number(self.printer.leaves())),
+            Call::Pages => Done::from(Answer::Number(self.printer.pages())),
+            Call::Depth => Done::from(Answer::Number(u32::from(self.printer.depth()))),
+            Call::Laid { page } => told(self.printer.laid(page), Answer::Number),
+            Call::Place { page, slot } => { told(self.printer.place(page, slot), Answer::Placed) }
+            Call::Length { leaf } => told(self.printer.length(leaf), Answer::Number),
             Call::Pour { leaf, at, .. } => {
-                said(
-                    at,
-                    self.printer.sheets().pour(leaf, front, at),
-                    Answer::Poured,
-                )
+                said(at, self.printer.pour(leaf, front, at), Answer::Poured)
             }
         }
     }

@@ -26,6 +26,7 @@ pub fn before(bytes: &[u8], stop: u8) -> usize
     bytes.iter().take_while(|b| **b != stop).count()
 }
 
+#[inline(always)] // see put_pieces
 fn put_piece<O: Sink>(out: &mut O, piece: &Piece) -> Option<()>
     ensures { O.takes out.old (spelled piece.now) (is_some result) out.new }
 {
@@ -37,6 +38,7 @@ fn put_piece<O: Sink>(out: &mut O, piece: &Piece) -> Option<()>
 }
 
 /// Gives a text to a sink, piece by piece, as far as it fits.
+#[inline(always)] // a caller's few pieces then need no loop, and a count of fixed bytes no code
 pub fn put_pieces<O: Sink>(out: &mut O, pieces: &[Piece]) -> Option<()>
     ensures { O.takes out.old (spelled_all pieces.now) (is_some result) out.new }
 {

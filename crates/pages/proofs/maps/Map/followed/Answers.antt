@@ -16,16 +16,16 @@ some_if false m = refl
 chosen : (r : Option Map) (b : Bool) (m f : Map) → r ≡ then_some b m → b ≡ fits m → m ≡ f → r ≡ answer f (fits f)
 chosen r b m f e t is = e ∙ ap (λ c. then_some c m) t ∙ ap (λ n. then_some (fits n) n) is ∙ some_if (fits f) f
 
-pub returns-in_err-checked_mul : goal.returns-in_err-checked_mul
-returns-in_err-checked_mul c = c.from_residual.ensures ∙ sym (ap (answer (followed c.args.self c.args.other)) (far (followed c.args.self c.args.other) (inr (omega (arith, c.in_err-checked_mul.ensures)))))
+pub returns-in_err-product : goal.returns-in_err-product
+returns-in_err-product c = c.from_residual.ensures ∙ sym (ap (answer (followed c.args.self c.args.other)) (far (followed c.args.self c.args.other) (inr (omega (arith, c.in_err-product.ensures)))))
 
-pub returns-in_err-checked_mul-2 : goal.returns-in_err-checked_mul-2
-returns-in_err-checked_mul-2 c = c.from_residual-in_err-checked_mul-2.ensures ∙ sym (ap (answer (followed c.args.self c.args.other)) (far (followed c.args.self c.args.other) (inl (omega (arith, c.in_err-checked_mul-2.ensures)))))
+pub returns-in_err-product-2 : goal.returns-in_err-product-2
+returns-in_err-product-2 c = c.from_residual-in_err-product-2.ensures ∙ sym (ap (answer (followed c.args.self c.args.other)) (far (followed c.args.self c.args.other) (inl (omega (arith, c.in_err-product-2.ensures)))))
 
 pub returns : goal.returns
 returns c =
     let p = parts c.args.self c.args.other c.requires.first_fits c.requires.second_fits c.turned-x.result c.turned-x.ensures in
-    let e = made_is c.args.self c.args.other c.turned-x.result p (fit c.args.other c.requires.second_fits) c.in_ok-checked_mul.field-0 c.in_ok-checked_mul-2.field-0 c.scaled.result c.scaled-2.result c.in_ok-checked_mul.ensures.1 c.in_ok-checked_mul-2.ensures.1 c.scaled.ensures c.scaled-2.ensures in
+    let e = made_is c.args.self c.args.other c.turned-x.result p (fit c.args.other c.requires.second_fits) c.in_ok-product.field-0 c.in_ok-product-2.field-0 c.scaled.result c.scaled-2.result c.in_ok-product.ensures c.in_ok-product-2.ensures c.scaled.ensures c.scaled-2.ensures in
     chosen _ _ _ _ c.then_some.ensures c.fits.ensures e
 
 pub scaled-requires : goal.scaled-requires

@@ -52,7 +52,7 @@ returns-in-Size-clause-does g c =
     let b = s.buffer.now in
     let end = c.min-end.result in
     let n = g.P.Printer.printed s.printer.now in
-    did c.in-Size.is b (take end b) end (omega (arith, c.min-end.ensures, c.room.ensures)) refl (λ few. asked n (take end b) s.plan.now (Measured c.size.result) c.from-in-Size.result c.from-in-Size.ensures (record { same = λ n. refl; unprinted = refl }) (ap (λ z. reply (Measured z) []) c.size.ensures ∙ ap (λ (m : Meaning). reply (Measured (size_of m)) []) c.sheets.ensures))
+    did c.in-Size.is b (take end b) end (omega (arith, c.min-end.ensures, c.room.ensures)) refl (λ few. asked n (take end b) s.plan.now (Measured c.size.result) c.from-in-Size.result c.from-in-Size.ensures (record { same = λ n. refl; unprinted = refl }) (ap (λ z. reply (Measured z) []) c.size.ensures))
 
 pub returns-in-Leaves-clause-does : goal.returns-in-Leaves-clause-does
 returns-in-Leaves-clause-does g c =
@@ -60,7 +60,7 @@ returns-in-Leaves-clause-does g c =
     let b = s.buffer.now in
     let end = c.min-end.result in
     let n = g.P.Printer.printed s.printer.now in
-    did c.in-Leaves.is b (take end b) end (omega (arith, c.min-end.ensures, c.room.ensures)) refl (λ few. asked n (take end b) s.plan.now (Number c.leaves.result) c.from-in-Leaves.result c.from-in-Leaves.ensures (record { same = λ n. refl; unprinted = refl }) (ap (λ z. reply (Number z) []) c.leaves.ensures ∙ ap (λ (m : Meaning). reply (Number m.leaves) []) c.sheets-in-Leaves.ensures))
+    did c.in-Leaves.is b (take end b) end (omega (arith, c.min-end.ensures, c.room.ensures)) refl (λ few. asked n (take end b) s.plan.now (Number c.leaves.result) c.from-in-Leaves.result c.from-in-Leaves.ensures (record { same = λ n. refl; unprinted = refl }) (ap (λ z. reply (Number z) []) c.leaves.ensures))
 
 pub returns-in-Pages-clause-does : goal.returns-in-Pages-clause-does
 returns-in-Pages-clause-does g c =
@@ -68,7 +68,7 @@ returns-in-Pages-clause-does g c =
     let b = s.buffer.now in
     let end = c.min-end.result in
     let n = g.P.Printer.printed s.printer.now in
-    did c.in-Pages.is b (take end b) end (omega (arith, c.min-end.ensures, c.room.ensures)) refl (λ few. asked n (take end b) s.plan.now (Number c.pages.result) c.from-in-Pages.result c.from-in-Pages.ensures (record { same = λ n. refl; unprinted = refl }) (ap (λ z. reply (Number z) []) c.pages.ensures ∙ ap (λ (m : Meaning). reply (Number m.pages) []) c.sheets-in-Pages.ensures))
+    did c.in-Pages.is b (take end b) end (omega (arith, c.min-end.ensures, c.room.ensures)) refl (λ few. asked n (take end b) s.plan.now (Number c.pages.result) c.from-in-Pages.result c.from-in-Pages.ensures (record { same = λ n. refl; unprinted = refl }) (ap (λ z. reply (Number z) []) c.pages.ensures))
 
 pub returns-in-Depth-clause-does : goal.returns-in-Depth-clause-does
 returns-in-Depth-clause-does g c =
@@ -76,7 +76,7 @@ returns-in-Depth-clause-does g c =
     let b = s.buffer.now in
     let end = c.min-end.result in
     let n = g.P.Printer.printed s.printer.now in
-    did c.in-Depth.is b (take end b) end (omega (arith, c.min-end.ensures, c.room.ensures)) refl (λ few. asked n (take end b) s.plan.now (Number c.from-in-Depth.result) c.from-in-Depth-2.result c.from-in-Depth-2.ensures (record { same = λ n. refl; unprinted = refl }) (ap (λ z. reply (Number z) []) (c.from-in-Depth.ensures ∙ c.depth.ensures) ∙ ap (λ (m : Meaning). reply (Number m.depth) []) c.sheets-in-Depth.ensures))
+    did c.in-Depth.is b (take end b) end (omega (arith, c.min-end.ensures, c.room.ensures)) refl (λ few. asked n (take end b) s.plan.now (Number c.from-in-Depth.result) c.from-in-Depth-2.result c.from-in-Depth-2.ensures (record { same = λ n. refl; unprinted = refl }) (ap (λ z. reply (Number z) []) (c.from-in-Depth.ensures ∙ c.depth.ensures)))
 
 pub returns-in-Cell-clause-does : goal.returns-in-Cell-clause-does
 returns-in-Cell-clause-does g c =
@@ -92,7 +92,7 @@ returns-in-Laid-clause-does g c =
     let b = s.buffer.now in
     let end = c.min-end.result in
     let n = g.P.Printer.printed s.printer.now in
-    did c.in-Laid.is b (take end b) end (omega (arith, c.min-end.ensures, c.room.ensures)) refl (λ few. asked_by Number (λ x. record { same = λ n. refl; unprinted = refl }) n (take end b) s.plan.now c.laid.result c.told-in-Laid.result c.told-in-Laid.ensures (ap (reply_by Number) (c.laid.ensures ∙ ap (λ (m : Meaning). laid_at m c.in-Laid.page) c.sheets-in-Laid.ensures)))
+    did c.in-Laid.is b (take end b) end (omega (arith, c.min-end.ensures, c.room.ensures)) refl (λ few. asked_by Number (λ x. record { same = λ n. refl; unprinted = refl }) n (take end b) s.plan.now c.laid.result c.told-in-Laid.result c.told-in-Laid.ensures (ap (reply_by Number) (c.laid.ensures)))
 
 pub returns-in-Place-clause-does : goal.returns-in-Place-clause-does
 returns-in-Place-clause-does g c =
@@ -100,7 +100,7 @@ returns-in-Place-clause-does g c =
     let b = s.buffer.now in
     let end = c.min-end.result in
     let n = g.P.Printer.printed s.printer.now in
-    did c.in-Place.is b (take end b) end (omega (arith, c.min-end.ensures, c.room.ensures)) refl (λ few. asked_by Placed (λ x. record { same = λ n. refl; unprinted = refl }) n (take end b) s.plan.now c.place.result c.told-in-Place.result c.told-in-Place.ensures (ap (reply_by Placed) (c.place.ensures ∙ ap (λ (m : Meaning). place_at m c.in-Place.page c.in-Place.slot) c.sheets-in-Place.ensures)))
+    did c.in-Place.is b (take end b) end (omega (arith, c.min-end.ensures, c.room.ensures)) refl (λ few. asked_by Placed (λ x. record { same = λ n. refl; unprinted = refl }) n (take end b) s.plan.now c.place.result c.told-in-Place.result c.told-in-Place.ensures (ap (reply_by Placed) (c.place.ensures)))
 
 pub returns-in-Length-clause-does : goal.returns-in-Length-clause-does
 returns-in-Length-clause-does g c =
@@ -108,7 +108,7 @@ returns-in-Length-clause-does g c =
     let b = s.buffer.now in
     let end = c.min-end.result in
     let n = g.P.Printer.printed s.printer.now in
-    did c.in-Length.is b (take end b) end (omega (arith, c.min-end.ensures, c.room.ensures)) refl (λ few. asked_by Number (λ x. record { same = λ n. refl; unprinted = refl }) n (take end b) s.plan.now c.length.result c.told-in-Length.result c.told-in-Length.ensures (ap (reply_by Number) (c.length.ensures ∙ ap (λ (m : Meaning). length_at m c.in-Length.leaf) c.sheets-in-Length.ensures)))
+    did c.in-Length.is b (take end b) end (omega (arith, c.min-end.ensures, c.room.ensures)) refl (λ few. asked_by Number (λ x. record { same = λ n. refl; unprinted = refl }) n (take end b) s.plan.now c.length.result c.told-in-Length.result c.told-in-Length.ensures (ap (reply_by Number) (c.length.ensures)))
 
 pub returns-in-Pour-clause-does : goal.returns-in-Pour-clause-does
 returns-in-Pour-clause-does g c =
@@ -116,4 +116,4 @@ returns-in-Pour-clause-does g c =
     let b = s.buffer.now in
     let end = c.min-end.result in
     let n = g.P.Printer.printed s.printer.now in
-    did c.in-Pour.is b c.pour.new.buffer end (omega (arith, c.min-end.ensures, c.room.ensures)) c.pour.auto.buffer (λ few. pour_does _ c.in-Pour.leaf c.in-Pour.at (take end b) c.pour.new.buffer c.sheets-in-Pour.ensures c.in-Pour.room n s.plan.now c.pour.result c.said-in-Pour.result few c.pour.ensures.answer c.pour.ensures.after c.said-in-Pour.ensures)
+    did c.in-Pour.is b c.pour.new.buffer end (omega (arith, c.min-end.ensures, c.room.ensures)) c.pour.auto.buffer (λ few. pour_does (g.P.Printer.edition s.printer.now) c.in-Pour.leaf c.in-Pour.at (take end b) c.pour.new.buffer c.in-Pour.room n s.plan.now c.pour.result c.said-in-Pour.result few c.pour.ensures.answer c.pour.ensures.after c.said-in-Pour.ensures)

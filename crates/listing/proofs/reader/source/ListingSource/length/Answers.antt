@@ -15,4 +15,4 @@ short s leaf n (Some b) p e =
     omega (arith, e, s.lawful.inked leaf h, ap length (ink_page s.file.now leaf p.0), ap (λ t. length (ink_of t)) p.2)
 
 pub overflow_cast-result : goal.overflow_cast-result
-overflow_cast-result c = omega (arith, short c.args.self.now c.args.leaf c.map_or.result c.in_ok-page.field-0 c.in_ok-page.ensures c.map_or.ensures)
+overflow_cast-result c = omega (arith, short c.args.self.now _ c.map_or.result c.in_ok-page.field-0 c.in_ok-page.ensures c.map_or.ensures)
